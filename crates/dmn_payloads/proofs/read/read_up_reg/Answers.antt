@@ -1,0 +1,8 @@
+use Rattle.std.proofs.Common.{drop}
+use Rattle.dmn_payloads.specs.Payloads.{up_reg, version_one}
+use Rattle.dmn_payloads.proofs.Version.{one_version}
+use Rattle.dmn_payloads.proofs.read.read_up_reg.Goals as goal
+
+pub read_payload-requires : goal.read_payload-requires
+unfolding up_reg version_one
+read_payload-requires c = λ v fits. one_version v.version (drop 2 (up_reg.text v)) fits.0.1

@@ -1,0 +1,8 @@
+-- The payloads of special transactions. A reader begins here; the parts are:
+--   Payloads      the tables of the four provider payloads (DIP-0003) and of the coinbase's payload (DIP-0004)
+--   Commitments   the tables of a quorum's commitment and of its payload (DIP-0006), and null commitments
+--   Mined         the payload of a commitment as the code holds it, by the same table
+--   Scripts       what a script pays to
+--   Fault         what a reader answers of a payload
+-- A table, as `pro_reg`, is a format: `pro_reg.text v` are the fields of v joined, `pro_reg.Fits v` says that v has a
+-- text, and `whole pro_reg text` is the value whose text it is, or where it departs.

@@ -1,0 +1,9 @@
+use Rattle.dmn_bytes.specs.Points.{out_point, point_cmp}
+use Rattle.dmn_bytes.specs.Format.{ascending}
+use Rattle.dmn_bytes.proofs.Read.{sized_gives}
+use Rattle.dmn_rows.specs.Start.{point_of, behind_point, count_field, outputs_field}
+use Rattle.dmn_rows.proofs.start.read_outputs.Goals as goal
+
+pub returns : goal.returns
+unfolding outputs_field
+returns c = sized_gives count_field (ascending point_cmp point_of out_point behind_point) _ _ _ c.in_ok-count.count _ c.in_ok-count.ensures.0 c.in_ok-count.ensures.1 (rw c.from.ensures at c.read_ascending.ensures)

@@ -1,0 +1,20 @@
+-- What a registry starts from, and the numbers by which it works. A reader begins here; the parts are:
+--   Profile  the two profiles, by their tables
+--   Row      a stored row, and the row that it stands for at a height
+--   Start    the start record's format, field by field
+--   Fault    what a fault of a start record says of its text
+--   Verdict  a verdict's format, field by field
+--   Rule     the rules' numbers
+use Rattle.std.specs.Prelude.{◌≡◌, ℕ, ◌≤◌, List, length}
+use Rattle.dmn_rows.specs.declared.start.StartRecord.{StartRecord}
+use Rattle.dmn_rows.specs.Start.{start_record, height_max, most_outputs}
+
+-- the text is, whole, that of this start record
+abbrev pub IsStartText : List ℕ → StartRecord → Type 0
+IsStartText text start = start_record.Fits start × (text ≡ start_record.text start)
+
+-- the bounds that each start record keeps
+pub record KeepsBounds (start : StartRecord) : Type 0 where
+  pub profile : (1 ≤ start.profile) × (start.profile ≤ 2)
+  pub first : (1 ≤ start.first) × (start.first ≤ height_max)
+  pub outputs : length start.outputs ≤ most_outputs

@@ -1,0 +1,8 @@
+-- A stored row, and the row that it stands for at a height (DIP-0003, DIP-0006).
+use Rattle.std.specs.Prelude.{ℕ, ◌==◌, ◌-◌, if◌then◌else◌}
+use Rattle.dmn_rows.specs.declared.row.MnRow.{MnRow}
+
+-- The row after block h. The penalty of a row that isn't banned falls by one a block, to 0; that of a banned row
+-- stands. Rows of the definitions have no `penalty_at`: it is 0.
+abbrev pub plain : ℕ → MnRow → MnRow
+plain h r = record r { penalty = if r.banned == 0 then r.penalty - (h - r.penalty_at) else r.penalty; penalty_at = 0 }

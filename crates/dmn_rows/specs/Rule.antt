@@ -1,0 +1,69 @@
+-- The number of each rule.
+use Rattle.std.specs.Prelude.{ℕ}
+use Rattle.dmn_rows.specs.declared.rule.Rule.{Rule}
+use Rattle.dmn_rows.specs.declared.rule.Rule.TheVariants.{ZeroHash, HashKnown, NotNext, HeightLimit, NoCoinbase, SecondCoinbase, DuplicateTx, BadMerkle, VerdictForm, CbPayload, CbVersion, CbHeight, UnknownType, PayloadVersion, PayloadForm, InputsHash, RegType, RegMode, NullKey, PayoutForm, PayoutKey, RewardRange, AddressForm, SigPresence, CollateralIndex, CollateralValue, CollateralScript, CollateralUnknown, CollateralKeyless, CollateralKey, DupOwner, DupOperator, DupAddress, NoRow, UpAddress, UpDupAddress, OperatorPayoutForm, OperatorPayoutUnasked, NoOperator, UpMode, UpNullKey, UpPayoutForm, UpPayoutKey, UpDupOperator, UpCollateralKey, RevokeReason, QuorumVersion, QuorumType, QuorumHeight, QuorumWindow, QuorumBase, QuorumSecond, QuorumDone, QuorumBits, QuorumFew, VerdictMissing, VerdictOther, VerdictNo, QuorumMissing, TooManyChanges, TooManyMasternodes, TooManyOutputs, CbRoot}
+
+unfoldable pub rule_number : Rule → ℕ
+rule_number ZeroHash = 1
+rule_number (HashKnown height) = 2
+rule_number (NotNext tip) = 3
+rule_number HeightLimit = 4
+rule_number NoCoinbase = 6
+rule_number SecondCoinbase = 7
+rule_number DuplicateTx = 8
+rule_number (BadMerkle computed) = 9
+rule_number (VerdictForm position) = 10
+rule_number CbPayload = 11
+rule_number (CbVersion found) = 12
+rule_number (CbHeight found) = 13
+rule_number (UnknownType found) = 20
+rule_number (PayloadVersion found) = 21
+rule_number (PayloadForm place) = 22
+rule_number InputsHash = 23
+rule_number RegType = 30
+rule_number RegMode = 31
+rule_number NullKey = 32
+rule_number PayoutForm = 33
+rule_number PayoutKey = 34
+rule_number RewardRange = 35
+rule_number AddressForm = 36
+rule_number SigPresence = 37
+rule_number CollateralIndex = 38
+rule_number CollateralValue = 39
+rule_number CollateralScript = 40
+rule_number CollateralUnknown = 41
+rule_number CollateralKeyless = 42
+rule_number CollateralKey = 43
+rule_number (DupOwner row) = 44
+rule_number (DupOperator row) = 45
+rule_number (DupAddress row) = 46
+rule_number NoRow = 50
+rule_number UpAddress = 51
+rule_number (UpDupAddress row) = 52
+rule_number OperatorPayoutForm = 53
+rule_number OperatorPayoutUnasked = 54
+rule_number NoOperator = 55
+rule_number UpMode = 56
+rule_number UpNullKey = 57
+rule_number UpPayoutForm = 58
+rule_number UpPayoutKey = 59
+rule_number (UpDupOperator row) = 60
+rule_number UpCollateralKey = 61
+rule_number RevokeReason = 62
+rule_number (QuorumVersion found) = 63
+rule_number (QuorumType found) = 64
+rule_number (QuorumHeight found) = 65
+rule_number QuorumWindow = 66
+rule_number (QuorumBase base) = 67
+rule_number QuorumSecond = 68
+rule_number QuorumDone = 69
+rule_number QuorumBits = 70
+rule_number QuorumFew = 71
+rule_number VerdictMissing = 73
+rule_number (VerdictOther wanted) = 74
+rule_number VerdictNo = 75
+rule_number (QuorumMissing kind) = 80
+rule_number TooManyChanges = 81
+rule_number TooManyMasternodes = 82
+rule_number TooManyOutputs = 83
+rule_number (CbRoot committed computed) = 84

@@ -1,0 +1,4 @@
+pub mod Defs
+pub mod Entry
+pub mod Page
+pub mod Place

@@ -1,0 +1,139 @@
+//! The simplified list, in the order of its hashes.
+
+ghost use Rattle.std.specs.Prelude.{◌≡◌, ◌<◌, ◌≤◌, [], Ok, OnOk, OnErr, IfOk, IsTrue, filter, not, length, is_ok, if◌then◌else◌};
+ghost use Rattle.std.specs.List.{list_any};
+ghost use Rattle.dmn_sml.specs.Defs.{IsAscending, has_hash, leaf, root_of, put_entry, delete_hash};
+ghost use Rattle.dmn_sml.specs.Place.{place_of, has_hash_at};
+
+use crate::entry::SmlEntry;
+use dmn_bytes::{Hash256, Memory, digest};
+use dmn_merkle::RootBuilder;
+use std::alloc::{AllocError, Global};
+use std::marker::Model;
+
+/// Entries in strictly ascending order of their hashes. Contracts see them as a list.
+#[derive(Debug, Drop)]
+pub struct SmlList {
+    entries: Vec<SmlEntry>,
+}
+
+impl Model for SmlList {
+    ghost use Rattle.std.specs.Prelude.{List};
+    ghost use Rattle.dmn_sml.specs.declared.entry.SmlEntry.{SmlEntry};
+    ghost use Rattle.dmn_sml.specs.Defs.{IsAscending};
+
+    ghost Value = { List SmlEntry };
+
+    ghost view = { λ l. l.entries.items };
+
+    ghost invariant = { λ l. IsAscending l.entries.items };
+}
+
+impl SmlList {
+    /// No entries, which takes no memory.
+    pub fn new(alloc: Global) -> SmlList
+        ensures { result ≡ [] }
+    {
+        SmlList {
+            entries: Vec::new(alloc),
+        }
+    }
+
+    /// Adds an entry in its place, or replaces the one of its hash. Without memory nothing changes.
+    pub fn put(&mut self, entry: SmlEntry) -> Result<(), Memory>
+        ensures ok { OnOk result (self.new ≡ put_entry entry self.old) }
+        ensures err { OnErr result (self.new ≡ self.old) }
+    {
+        Ok(put_in(&mut self.entries, entry)?)
+    }
+
+    /// Takes the entry of a hash away, and tells whether it was there. This takes no memory.
+    pub fn delete(&mut self, hash: &Hash256) -> bool
+        ensures was { result ≡ list_any (has_hash hash.now) self.old }
+        ensures rest { self.new ≡ delete_hash hash.now self.old }
+    {
+        delete_from(&mut self.entries, hash)
+    }
+
+    /// The entries, in their order.
+    pub fn entries(&self) -> &[SmlEntry]
+        ensures all { result.now ≡ self.now }
+        ensures ascending { IsAscending self.now }
+    {
+        &self.entries
+    }
+
+    /// Another list of the same entries.
+    pub fn copy(&self, alloc: Global) -> Result<SmlList, Memory>
+        ensures { IfOk result (λ list. list ≡ self.now) }
+    {
+        Ok(SmlList {
+            entries: Vec::from_slice(alloc, &self.entries)?,
+        })
+    }
+}
+
+// How many entries have a lower hash. The place is found by halving.
+fn place(entries: &[SmlEntry], hash: &Hash256) -> usize
+    requires { IsAscending entries.now }
+    ensures place { result ≡ place_of hash.now entries.now }
+    ensures within { result ≤ length entries.now }
+{
+    entries.partition_point(|entry| entry.hash.cmp(hash).is_lt())
+}
+
+// Whether the entry at a place has the hash.
+fn has_at(entries: &[SmlEntry], at: usize, hash: &Hash256) -> bool
+    ensures has { result ≡ has_hash_at hash.now entries.now at }
+    ensures within { IsTrue result → at < length entries.now }
+{
+    match entries.get(at) {
+        None => false,
+        Some(entry) => entry.hash == *hash,
+    }
+}
+
+fn put_in(entries: &mut Vec<SmlEntry>, entry: SmlEntry) -> Result<(), AllocError>
+    requires { IsAscending entries.old.items }
+    ensures { entries.new.items ≡ (if is_ok result then put_entry entry entries.old.items else entries.old.items) }
+{
+    let at = place(entries, &entry.hash);
+    if has_at(entries, at, &entry.hash) {
+        entries[at] = entry;
+        Ok(())
+    } else {
+        Ok(entries.insert(at, entry)?)
+    }
+}
+
+fn delete_from(entries: &mut Vec<SmlEntry>, hash: &Hash256) -> bool
+    requires { IsAscending entries.old.items }
+    ensures was { result ≡ list_any (has_hash hash.now) entries.old.items }
+    ensures rest { entries.new.items ≡ delete_hash hash.now entries.old.items }
+{
+    let at = place(entries, hash);
+    let was = has_at(entries, at, hash);
+    if was {
+        entries.remove(at);
+    }
+    was
+}
+
+#[tactic(auto, unfolding(crate::specs::Defs::leaf))]
+fn leaf(entry: &SmlEntry) -> Hash256
+    ensures { result ≡ leaf entry.now }
+{
+    digest(entry)
+}
+
+/// The root of a list: the Merkle root of the hashes of its entries' texts. They are made one by one, which takes no
+/// memory (DIP-0004).
+pub fn list_root(_alloc: Global, list: &SmlList) -> Result<Hash256, Memory>
+    ensures { result ≡ Ok (root_of list.now) }
+{
+    let mut builder = RootBuilder::new();
+    for entry in list.entries() {
+        builder.push(&leaf(entry));
+    }
+    Ok(builder.finish())
+}

@@ -1,0 +1,5 @@
+pub mod Defs
+pub mod Body
+pub mod Fault
+pub mod Frames
+pub mod Shape

@@ -1,0 +1,163 @@
+-- The rules on a block as a whole, in the order of their numbers: a table of which is broken, with its fields and the
+-- transaction that it names. Rule 2 asks what the machine holds, and stands there; 5 isn't used.
+use Rattle.std.specs.Prelude.{◌≡◌, ℕ, zero, suc, ◌+◌, false, ◌==◌, ◌&&◌, ◌||◌, Bool, not, nat_lt, nat_le, List, [], ◌∷◌, ◌++◌, length, take, map, Option, Some, None, Result, Ok, Err, slice_get, if◌then◌else◌}
+use Rattle.std.specs.Option.{option_map, option_or}
+use Rattle.std.specs.Result.{is_ok}
+use Rattle.std.specs.List.{list_any}
+use Rattle.std.specs.Str.{bytes_eq}
+use Rattle.std.specs.Int.{w16, from_le_bytes}
+use Rattle.dmn_bytes.specs.declared.fault.Departure.{Departure}
+use Rattle.dmn_bytes.specs.declared.hash.Hash256.{Hash256}
+use Rattle.dmn_bytes.specs.Format.{whole}
+use Rattle.dmn_bytes.specs.Points.{is_zero}
+use Rattle.dmn_tx.specs.declared.tx.Tx.{Tx}
+use Rattle.dmn_tx.specs.declared.tx.TxIn.{TxIn}
+use Rattle.dmn_merkle.specs.Defs.{merkle_root}
+use Rattle.dmn_payloads.specs.Payloads.{cb}
+use Rattle.dmn_payloads.specs.declared.payloads.CbTx.{CbTx}
+use Rattle.dmn_rows.specs.Start.{height_max}
+use Rattle.dmn_rows.specs.declared.verdict.Verdict.{Verdict}
+use Rattle.dmn_rows.specs.declared.rule.Rule.{Rule}
+use Rattle.dmn_rows.specs.declared.rule.Rule.TheVariants.{ZeroHash, NotNext, HeightLimit, NoCoinbase, SecondCoinbase, DuplicateTx, BadMerkle, VerdictForm, CbPayload, CbVersion, CbHeight}
+use Rattle.dmn_block.specs.declared.frame.BlockFrame.{BlockFrame}
+use Rattle.dmn_block.specs.declared.fault.ShapeFault.{ShapeFault}
+use Rattle.dmn_block.specs.declared.fault.ShapeFault.TheVariants as faults
+
+-- a rule with its fields, and the place of the transaction that it names
+abbrev pub Refusal : Type 0
+Refusal = Rule × Option ℕ
+
+-- rules with their numbers; each is broken with a refusal, or isn't
+abbrev pub Numbered : Type 0
+Numbered = List (ℕ × Option Refusal)
+
+abbrev pub unnumbered : Numbered → List (Option Refusal)
+unnumbered = map (λ e. e.1)
+
+abbrev pub first_broken : List (Option Refusal) → Option Refusal
+first_broken [] = None
+first_broken (Some refusal ∷ rest) = Some refusal
+first_broken (None ∷ rest) = first_broken rest
+
+-- a rule that names no transaction, and one that names the first
+abbrev pub of_block : Bool → Rule → Option Refusal
+of_block broken rule = if broken then Some (rule, None) else None
+
+abbrev pub of_first : Bool → Rule → Option Refusal
+of_first broken rule = if broken then Some (rule, Some 0) else None
+
+-- a rule that names the transaction at this place
+abbrev pub of_tx : Option ℕ → Rule → Option Refusal
+of_tx place rule = option_map (λ tx. (rule, Some tx)) place
+
+-- the least place below n that passes a test
+unfoldable pub least : ℕ → (ℕ → Bool) → Option ℕ
+least zero test = None
+least (suc n) test = option_or (least n test) (if test n then Some n else None)
+
+-- there is a value, and it passes the test
+abbrev pub passes : {X : Type 0} → (X → Bool) → Option X → Bool
+passes test None = false
+passes test (Some x) = test x
+
+-- the outpoint of no output
+abbrev pub is_null_input : TxIn → Bool
+is_null_input input = is_zero input.point.hash.0 && (input.point.index == 0xffffffff)
+
+abbrev pub is_one_null : List TxIn → Bool
+is_one_null [] = false
+is_one_null (input ∷ []) = is_null_input input
+is_one_null (input ∷ more ∷ rest) = false
+
+-- a coinbase has exactly one input, and it spends nothing
+unfoldable pub is_coinbase : Tx → Bool
+is_coinbase tx = is_one_null tx.inputs
+
+unfoldable pub begins_with_coinbase : List Tx → Bool
+begins_with_coinbase txs = passes is_coinbase (slice_get txs 0)
+
+-- a coinbase behind the first transaction
+abbrev pub is_second_coinbase : List Tx → ℕ → Bool
+is_second_coinbase txs k = nat_lt 0 k && passes is_coinbase (slice_get txs k)
+
+-- the id at this place stands at an earlier one too
+abbrev pub stands_earlier : List Hash256 → ℕ → Bool
+stands_earlier ids k = passes (λ (id : Hash256). list_any (λ (earlier : Hash256). bytes_eq earlier.0 id.0) (take k ids)) (slice_get ids k)
+
+-- a verdict in its form: for a transaction of the block, from this one on, of a kind from 1 to 4, and yes or no
+unfoldable pub is_in_form : ℕ → ℕ → Verdict → Bool
+is_in_form count from v = nat_le from v.tx && nat_lt v.tx count && nat_le 1 v.kind && nat_le v.kind 4 && nat_le v.valid 1
+
+-- the first verdict that isn't in its form or whose transaction isn't behind that of the one before
+unfoldable pub bad_verdict : ℕ → ℕ → List Verdict → Option ℕ
+bad_verdict count from [] = None
+bad_verdict count from (v ∷ vs) = if is_in_form count from v then option_map suc (bad_verdict count (v.tx + 1) vs) else Some 0
+
+-- the first two bytes of a payload
+abbrev pub version_of : List ℕ → ℕ
+version_of payload = from_le_bytes w16 (take 2 payload)
+
+-- it has no two bytes, or is of version 1 and isn't a coinbase's payload
+unfoldable pub is_no_payload : List ℕ → Bool
+is_no_payload payload = nat_lt (length payload) 2 || ((version_of payload == 1) && not (is_ok (whole cb payload)))
+
+unfoldable pub is_cb_type : Tx → Bool
+is_cb_type tx = (tx.version == 3) && (tx.kind == 5)
+
+-- another height than this in a coinbase's payload
+abbrev pub other_height : ℕ → Result CbTx Departure → Option Refusal
+other_height height (Ok value) = of_first (not (value.height == height)) (CbHeight value.height)
+other_height height (Err d) = None
+
+-- ---- the table
+
+unfoldable pub link_rules : BlockFrame → Hash256 → ℕ → Numbered
+link_rules block tip tip_height =
+    (1, of_block (is_zero block.hash.0) ZeroHash)
+    ∷ (3, of_block (not (bytes_eq block.prev.0 tip.0)) (NotNext tip))
+    ∷ (4, of_block (tip_height == height_max) HeightLimit)
+    ∷ []
+
+unfoldable pub tx_rules : BlockFrame → Numbered
+tx_rules block =
+    (6, of_block (not (begins_with_coinbase block.txs)) NoCoinbase)
+    ∷ (7, of_tx (least (length block.txs) (is_second_coinbase block.txs)) SecondCoinbase)
+    ∷ []
+
+unfoldable pub id_rules : BlockFrame → Numbered
+id_rules block =
+    (8, of_tx (least (length block.ids) (stands_earlier block.ids)) DuplicateTx)
+    ∷ (9, of_block (not (bytes_eq block.merkle.0 (merkle_root block.ids).0)) (BadMerkle (merkle_root block.ids)))
+    ∷ []
+
+unfoldable pub verdict_rules : BlockFrame → Numbered
+verdict_rules block = (10, option_map (λ k. (VerdictForm k, None)) (bad_verdict (length block.txs) 0 block.verdicts)) ∷ []
+
+unfoldable pub payload_rules : ℕ → Tx → Numbered
+payload_rules height tx =
+    (11, of_first (not (is_cb_type tx) || is_no_payload tx.payload) CbPayload)
+    ∷ (12, of_first (not (version_of tx.payload == 1)) (CbVersion (version_of tx.payload)))
+    ∷ (13, other_height height (whole cb tx.payload))
+    ∷ []
+
+abbrev pub coinbase_rules : ℕ → List Tx → Numbered
+coinbase_rules height [] = []
+coinbase_rules height (tx ∷ txs) = payload_rules height tx
+
+abbrev pub shape_rules : BlockFrame → Hash256 → ℕ → Numbered
+shape_rules block tip tip_height = link_rules block tip tip_height ++ (tx_rules block ++ (id_rules block ++ (verdict_rules block ++ coinbase_rules (tip_height + 1) block.txs)))
+
+-- the first broken rule of a block that is to follow the tip
+abbrev pub broken_rule : BlockFrame → Hash256 → ℕ → Option Refusal
+broken_rule block tip tip_height = first_broken (unnumbered (shape_rules block tip tip_height))
+
+-- A judge refuses exactly with the rule that is broken, unless memory runs out.
+abbrev pub Judges : {V : Type 0} → Option Refusal → Result V ShapeFault → Type 0
+Judges broken (Ok v) = broken ≡ None
+Judges broken (Err faults.Memory) = Unit {0}
+Judges broken (Err (faults.Broken rule tx)) = broken ≡ Some (rule, tx)
+
+-- the first transaction's payload is the text of this value
+abbrev pub IsPayloadOfFirst : List Tx → CbTx → Type 0
+IsPayloadOfFirst [] value = ⊥
+IsPayloadOfFirst (tx ∷ txs) value = cb.Fits value × (tx.payload ≡ cb.text value)

@@ -1,0 +1,238 @@
+//! The rules on a block as a whole, in the order of their numbers.
+
+ghost use Rattle.std.specs.Prelude.{◌≡◌, ◌≤◌, ◌+◌, ◌==◌, [], ◌∷◌, length, IfOk};
+ghost use Rattle.dmn_payloads.specs.Payloads.{cb};
+ghost use Rattle.dmn_block.specs.Defs.{IsBlock, most_items};
+ghost use Rattle.dmn_block.specs.Shape as table;
+ghost use Rattle.dmn_block.specs.Shape.{Judges, IsPayloadOfFirst};
+
+use crate::fault::ShapeFault;
+use crate::frame::BlockFrame;
+use dmn_bytes::{Hash256, Memory, is_zero};
+use dmn_merkle::root;
+use dmn_payloads::{CbTx, PayloadFault, read_cb};
+use dmn_rows::{Rule, Verdict};
+use dmn_tx::{Tx, TxIn};
+use std::alloc::Global;
+use std::collections::BTreeSet;
+
+type Refusal = (Rule, Option<u32>);
+
+/// Judges a block that is to follow this tip by rules 1, 3, 4 and 6 to 13, in the order of their numbers, and gives
+/// the coinbase's payload. Equal ids are found by an ordered set, and not by comparing all pairs.
+#[tactic(auto, using(crate::proofs::Rules::first_broken_append))]
+pub fn check_shape(
+    alloc: Global,
+    block: &BlockFrame,
+    tip: &Hash256,
+    tip_height: u32,
+) -> Result<CbTx, ShapeFault>
+    requires { IsBlock block.now }
+    // It refuses exactly with the first rule that is broken.
+    ensures rule { Judges (table.broken_rule block.now tip.now tip_height) result }
+    ensures payload { IfOk result (IsPayloadOfFirst block.now.txs) }
+{
+    check(&link_rules(block, tip, tip_height))?;
+    check(&tx_rules(block))?;
+    check(&id_rules(alloc, block)?)?;
+    check(&[verdict_form(block)])?;
+    match block.txs.as_slice() {
+        [] => Err(ShapeFault::Broken(Rule::NoCoinbase, None)),
+        [coinbase, ..] => judge_payload(alloc, coinbase, tip_height),
+    }
+}
+
+// Refuses with the first rule of a list that is broken.
+fn check(rules: &[Option<Refusal>]) -> Result<(), ShapeFault>
+    ensures { Judges (table.first_broken rules.now) result }
+{
+    for rule in rules {
+        if let Some((rule, tx)) = rule {
+            return Err(ShapeFault::Broken(*rule, *tx));
+        }
+    }
+    Ok(())
+}
+
+fn of_block(broken: bool, rule: Rule) -> Option<Refusal>
+    ensures { result ≡ table.of_block broken rule }
+{
+    if broken { Some((rule, None)) } else { None }
+}
+
+fn of_tx(place: Option<u32>, rule: Rule) -> Option<Refusal>
+    ensures { result ≡ table.of_tx place rule }
+{
+    place.map(|tx| (rule, Some(tx)))
+}
+
+#[tactic(auto, unfolding(crate::specs::Shape::link_rules))]
+fn link_rules(block: &BlockFrame, tip: &Hash256, tip_height: u32) -> [Option<Refusal>; 3]
+    ensures { result ≡ table.unnumbered (table.link_rules block.now tip.now tip_height) }
+{
+    [
+        of_block(is_zero(&block.hash.0), Rule::ZeroHash),
+        of_block(block.prev != *tip, Rule::NotNext { tip: *tip }),
+        of_block(tip_height == 4_294_967_294, Rule::HeightLimit),
+    ]
+}
+
+#[tactic(auto, unfolding(crate::specs::Shape::tx_rules))]
+fn tx_rules(block: &BlockFrame) -> [Option<Refusal>; 2]
+    requires { length block.now.txs ≤ most_items }
+    ensures { result ≡ table.unnumbered (table.tx_rules block.now) }
+{
+    let txs = block.txs.as_slice();
+    [
+        of_block(!begins_with_coinbase(txs), Rule::NoCoinbase),
+        of_tx(second_coinbase(txs), Rule::SecondCoinbase),
+    ]
+}
+
+#[tactic(auto, unfolding(crate::specs::Shape::id_rules))]
+fn id_rules(alloc: Global, block: &BlockFrame) -> Result<[Option<Refusal>; 2], Memory>
+    requires { length block.now.ids ≤ most_items }
+    ensures { IfOk result (λ rules. rules ≡ table.unnumbered (table.id_rules block.now)) }
+{
+    let ids = block.ids.as_slice();
+    let duplicate = duplicate_id(alloc, ids)?;
+    let computed = root(alloc, ids)?;
+    Ok([
+        of_tx(duplicate, Rule::DuplicateTx),
+        of_block(block.merkle != computed, Rule::BadMerkle { computed }),
+    ])
+}
+
+fn is_null_input(input: &TxIn) -> bool
+    ensures { result ≡ table.is_null_input input.now }
+{
+    is_zero(&input.point.hash.0) && input.point.index == u32::MAX
+}
+
+#[tactic(auto, unfolding(crate::specs::Shape::is_coinbase))]
+fn is_coinbase(tx: &Tx) -> bool
+    ensures { result ≡ table.is_coinbase tx.now }
+{
+    match tx.inputs.as_slice() {
+        [input] => is_null_input(input),
+        _ => false,
+    }
+}
+
+#[tactic(auto, unfolding(crate::specs::Shape::begins_with_coinbase))]
+fn begins_with_coinbase(txs: &[Tx]) -> bool
+    ensures { result ≡ table.begins_with_coinbase txs.now }
+{
+    match txs.first() {
+        None => false,
+        Some(tx) => is_coinbase(tx),
+    }
+}
+
+// The least place of a coinbase behind the first transaction.
+#[tactic(auto, using(crate::proofs::Rules::none_before_second, crate::proofs::Rules::second_is, crate::proofs::Rules::second_not, crate::proofs::Rules::least_none, crate::proofs::Rules::least_found, crate::proofs::Rules::least_more))]
+fn second_coinbase(txs: &[Tx]) -> Option<u32>
+    requires { length txs.now ≤ most_items }
+    ensures { result ≡ table.least (length txs.now) (table.is_second_coinbase txs.now) }
+{
+    for place in 1..txs.len() {
+        if is_coinbase(&txs[place]) {
+            return Some(place as u32);
+        }
+    }
+    None
+}
+
+// The least place whose id stands at an earlier one.
+#[tactic(auto, using(crate::proofs::Rules::least_none, crate::proofs::Rules::least_found, crate::proofs::Rules::least_more))]
+fn duplicate_id(alloc: Global, ids: &[Hash256]) -> Result<Option<u32>, Memory>
+    requires { length ids.now ≤ most_items }
+    ensures { IfOk result (λ place. place ≡ table.least (length ids.now) (table.stands_earlier ids.now)) }
+{
+    let mut seen = BTreeSet::new(alloc);
+    for place in 0..ids.len() {
+        match seen.insert(ids[place]) {
+            Ok(true) => {}
+            Ok(false) => return Ok(Some(place as u32)),
+            Err(_) => return Err(Memory),
+        }
+    }
+    Ok(None)
+}
+
+#[tactic(auto, unfolding(crate::specs::Shape::is_in_form))]
+fn is_in_form(count: usize, from: u32, verdict: &Verdict) -> bool
+    ensures { result ≡ table.is_in_form count from verdict.now }
+{
+    from <= verdict.tx
+        && (verdict.tx as usize) < count
+        && 1 <= verdict.kind
+        && verdict.kind <= 4
+        && verdict.valid <= 1
+}
+
+// The place of the first verdict that is out of form or out of order.
+#[tactic(auto, using(crate::proofs::Rules::in_form_from, crate::proofs::Rules::in_form_below, crate::proofs::Rules::bad_here, crate::proofs::Rules::bad_next, crate::proofs::Rules::bad_end))]
+fn bad_verdict(count: usize, verdicts: &[Verdict]) -> Option<u32>
+    requires { count ≤ most_items }
+    ensures { result ≡ table.bad_verdict count 0 verdicts.now }
+{
+    let mut from = 0;
+    for place in 0..verdicts.len() {
+        let verdict = &verdicts[place];
+        if !is_in_form(count, from, verdict) {
+            return Some(place as u32);
+        }
+        from = verdict.tx + 1;
+    }
+    None
+}
+
+#[tactic(auto, unfolding(crate::specs::Shape::verdict_rules))]
+fn verdict_form(block: &BlockFrame) -> Option<Refusal>
+    requires { length block.now.txs ≤ most_items }
+    ensures { table.unnumbered (table.verdict_rules block.now) ≡ result ∷ [] }
+{
+    let position = bad_verdict(block.txs.len(), block.verdicts.as_slice())?;
+    Some((Rule::VerdictForm { position }, None))
+}
+
+#[tactic(auto, unfolding(crate::specs::Shape::is_cb_type))]
+fn is_cb_type(tx: &Tx) -> bool
+    ensures { result ≡ table.is_cb_type tx.now }
+{
+    tx.version == 3 && tx.kind == 5
+}
+
+fn is_next(height: u32, tip_height: u32) -> bool
+    ensures { result ≡ (height == tip_height + 1) }
+{
+    u64::from(height) == u64::from(tip_height) + 1
+}
+
+// Judges the first transaction's payload, which must tell the height behind the tip.
+fn judge_payload(alloc: Global, tx: &Tx, tip_height: u32) -> Result<CbTx, ShapeFault>
+    ensures rule { Judges (table.first_broken (table.unnumbered (table.payload_rules (tip_height + 1) tx.now))) result }
+    ensures payload { IfOk result (λ value. cb.Fits value × (tx.now.payload ≡ cb.text value)) }
+{
+    if !is_cb_type(tx) {
+        return Err(ShapeFault::Broken(Rule::CbPayload, Some(0)));
+    }
+    match read_cb(alloc, tx.payload.as_slice()) {
+        Ok(value) => {
+            if is_next(value.height, tip_height) {
+                Ok(value)
+            } else {
+                let found = value.height;
+                Err(ShapeFault::Broken(Rule::CbHeight { found }, Some(0)))
+            }
+        }
+        Err(PayloadFault::PayloadVersion { found }) => {
+            Err(ShapeFault::Broken(Rule::CbVersion { found }, Some(0)))
+        }
+        Err(PayloadFault::PayloadForm { .. }) => {
+            Err(ShapeFault::Broken(Rule::CbPayload, Some(0)))
+        }
+        Err(PayloadFault::Memory) => Err(ShapeFault::Memory),
+    }
+}

@@ -1,0 +1,9 @@
+pub mod Asking
+pub mod Cutting
+pub mod Feeding
+pub mod Heading
+pub mod Payloads
+pub mod Plainness
+pub mod Replaying
+pub mod States
+pub mod Turning

@@ -1,0 +1,12 @@
+#!/usr/bin/env bash
+# Compares the built program with an independent model's answers, where such vectors lie beside the repository:
+#   tools/check_vectors.sh FOLDER FILE..   FOLDER has check_vectors.py; the files are its vectors
+# Without them it says so and does nothing. Build the program first (./quickstart).
+set -eu
+folder=${1:-}
+if [ -z "$folder" ] || [ ! -f "$folder/check_vectors.py" ]; then
+  echo "no vectors here: skipped"
+  exit 0
+fi
+shift
+exec python3 "$folder/check_vectors.py" "$(dirname "$0")/../crates/dmnd/out/dmnd" "$@"

@@ -9,8 +9,9 @@ begins a comment.
 
     start PROFILE FIRST HASH  a start record without outputs: profile small or main, the height of the first block,
                               the hash of the block before it
-    connect BYTES             a block: its hash, its header of 80 bytes, the count of its transactions and each of them,
-                              and the count of verdicts (none: 00)
+    connect BYTES             a block: its hash, its header of 80 bytes, the count of its transactions and each of them
+                              (the coinbase, then registrations and others in any order), the count of the verdicts
+                              on its signatures and each of them (none: 00)
     list HEIGHT               the list at a height
     tip                       the tip
     raw KIND [BYTES]          any frame: the number of its kind, and its body
@@ -28,6 +29,13 @@ CONNECT, TIP, LIST, START = 1, 3, 4, 32
 OK, BAD_REQUEST, NOT_HELD, REFUSED = 0, 2, 3, 8
 STATUSES = {OK: "Ok", 1: "Memory", BAD_REQUEST: "BadRequest", NOT_HELD: "NotHeld", REFUSED: "Refused", 13: "NotBuilt"}
 ENTRY_SIZE = 151
+# The rules that a block may break, and the fields that a refusal tells, each with its size in bytes.
+RULES = {
+    1: ("ZeroHash", ()), 2: ("HashKnown", (("height", 4),)), 3: ("NotNext", (("tip", 32),)), 4: ("HeightLimit", ()),
+    6: ("NoCoinbase", ()), 7: ("SecondCoinbase", ()), 8: ("DuplicateTx", ()), 9: ("BadMerkle", (("computed", 32),)),
+    10: ("VerdictForm", (("position", 4),)), 11: ("CbPayload", ()), 12: ("CbVersion", (("found", 2),)),
+    13: ("CbHeight", (("found", 4),)), 84: ("CbRoot", (("committed", 32), ("computed", 32))),
+}
 NO_TRANSACTION = 0xFFFFFFFF
 
 
@@ -139,11 +147,23 @@ def list_words(body):
     return "\n    ".join([head] + [entry_words(entry) for entry in entries])
 
 
+def field_words(name, value):
+    """A field of a refusal: a hash as it is stored, or a number."""
+    return "%s %s" % (name, value.hex() if len(value) == 32 else int.from_bytes(value, "little"))
+
+
 def refused_words(body):
-    place = u32(body, 1)
-    where = "" if place == NO_TRANSACTION else ", broken by transaction %d" % place
-    tells = ", which tells %s" % body[5:].hex() if body[5:] else ""
-    return "by rule %d%s%s" % (body[0], where, tells)
+    number, place, at = body[0], u32(body, 1), 5
+    name, fields = RULES.get(number, ("", ()))
+    words = ["by rule %d" % number + (" (%s)" % name if name else "")]
+    if place != NO_TRANSACTION:
+        words.append("broken by transaction %d" % place)
+    for field, size in fields:
+        words.append(field_words(field, body[at:at + size]))
+        at += size
+    if body[at:]:
+        words.append("which tells %s" % body[at:].hex())
+    return ", ".join(words)
 
 
 OK_WORDS = {CONNECT: block_words, TIP: tip_words, LIST: list_words}

@@ -31,6 +31,8 @@ pub fn check_shape(
     // It refuses exactly with the first rule that is broken.
     ensures rule { Judges (table.broken_rule block.now tip.now tip_height) result }
     ensures payload { IfOk result (IsPayloadOfFirst block.now.txs) }
+    // It tells the height behind the tip's, so that fits 32 bits.
+    ensures height { IfOk result (λ value. value.height ≡ tip_height + 1) }
 {
     check(&link_rules(block, tip, tip_height))?;
     check(&tx_rules(block))?;
@@ -214,6 +216,7 @@ fn is_next(height: u32, tip_height: u32) -> bool
 fn judge_payload(alloc: Global, tx: &Tx, tip_height: u32) -> Result<CbTx, ShapeFault>
     ensures rule { Judges (table.first_broken (table.unnumbered (table.payload_rules (tip_height + 1) tx.now))) result }
     ensures payload { IfOk result (λ value. cb.Fits value × (tx.now.payload ≡ cb.text value)) }
+    ensures height { IfOk result (λ value. value.height ≡ tip_height + 1) }
 {
     if !is_cb_type(tx) {
         return Err(ShapeFault::Broken(Rule::CbPayload, Some(0)));

@@ -3,7 +3,8 @@ pub mod Cutting
 pub mod Feeding
 pub mod Heading
 pub mod Payloads
-pub mod Plainness
 pub mod Replaying
 pub mod States
+pub mod Stepping
+pub mod Together
 pub mod Turning

@@ -7,6 +7,7 @@ use Rattle.dmn_block.specs.declared.body.ConnectBody.{ConnectBody}
 use Rattle.dmn_block.specs.declared.frame.BlockFrame.{BlockFrame}
 use Rattle.dmn_block.specs.Body.{connect_body}
 use Rattle.dmn_block.specs.Frames.{frame_of}
+use Rattle.dmn_block.specs.Shape.{Refusal, first_broken, unnumbered}
 use Rattle.dmn_bytes.specs.declared.fault.Departure.{Departure}
 use Rattle.dmn_bytes.specs.Format.{whole}
 use Rattle.dmn_bytes.specs.Law.{place_of}
@@ -20,13 +21,13 @@ use Rattle.dmnd.specs.declared.kind.Kind.TheVariants as kinds
 use Rattle.dmnd.specs.declared.machine.Machine.{Machine}
 use Rattle.dmnd.specs.declared.registry.State.{State}
 use Rattle.dmnd.specs.Answers.{MayAnswer, Serves}
-use Rattle.dmnd.specs.Ask.{answer_of, asked, asked_held, asked_idle, asked_of, connect, connect_by, connected, empty_body, idle, list_at, list_by, list_of, longest, low_of, started_by, started_with, tip_of}
+use Rattle.dmnd.specs.Ask.{answer_of, asked, asked_held, asked_idle, asked_of, connect, connect_by, connected, empty_body, hash_rules, idle, judged, list_at, list_by, list_of, longest, started_by, started_with, tip_of}
 use Rattle.dmnd.specs.Frames.{Frame}
 use Rattle.dmnd.specs.Kinds.{kind_of}
 use Rattle.dmnd.specs.Plain.{is_plain}
 use Rattle.dmnd.specs.Replay.{IsReplay, accepted, accepted_by}
-use Rattle.dmnd.specs.State.{Held, last_of, origin, state_at, tip_state}
-use Rattle.dmnd.specs.Step.{Refusal, added, replay, replay_on, step}
+use Rattle.dmnd.specs.State.{Held, last_of, low_of, origin, state_at, tip_state}
+use Rattle.dmnd.specs.Step.{added, refused_or, replay, replay_on, step}
 
 replay_more : (start : StartRecord) (states : List State) (blocks : List BlockFrame) (block : BlockFrame)
     → replay_on start states (blocks ++ block ∷ []) ≡ added (replay_on start states blocks) (step (last_of (origin start) (replay_on start states blocks)) block)
@@ -62,16 +63,20 @@ added_one held frame body next is found blocks same =
     let again : replay held.start (blocks ++ frame_of body ∷ []) ≡ added held.states (step (tip_state held) (frame_of body)) = replay_more held.start [] blocks (frame_of body) ∙ rw (← same) refl in
     rw is (more ∙ sym again)
 
-judged : (held : Held) (frame : Frame) (body : ConnectBody) → whole connect_body frame.body ≡ Ok body → (r : Result State Refusal) → step (tip_state held) (frame_of body) ≡ r → Keeps (Some held) frame (connected held r)
-judged held frame body is (Ok next) found = added_one held frame body next is found
-judged held frame body is (Err refusal) found = stays (Some held) frame (answers.Refused refusal.0 refusal.1) refl
+unrefused : (o : Option Refusal) (r : Result State Refusal) (next : State) → refused_or o r ≡ Ok next → r ≡ Ok next
+unrefused None r next e = e
+unrefused (Some refusal) r next e = absurd cc
+
+found : (held : Held) (frame : Frame) (body : ConnectBody) → whole connect_body frame.body ≡ Ok body → (r : Result State Refusal) → judged held (frame_of body) ≡ r → Keeps (Some held) frame (connected held r)
+found held frame body is (Ok next) same = added_one held frame body next is (unrefused (first_broken (unnumbered (hash_rules held body.hash))) (step (tip_state held) (frame_of body)) next same)
+found held frame body is (Err refusal) same = stays (Some held) frame (answers.Refused refusal.0 refusal.1) refl
 
 connects : (held : Held) (frame : Frame) (r : Result ConnectBody Departure) → whole connect_body frame.body ≡ r → Keeps (Some held) frame (connect_by held r)
 unfolding connect_by connect
 connects held frame (Ok body) is = go (is_plain held (frame_of body))
   where
-    go : (plain : Bool) → Keeps (Some held) frame (if plain then connected held (step (tip_state held) (frame_of body)) else (answers.NotBuilt, record { registry = Some held }))
-    go true = judged held frame body is (step (tip_state held) (frame_of body)) refl
+    go : (plain : Bool) → Keeps (Some held) frame (if plain then connected held (judged held (frame_of body)) else (answers.NotBuilt, record { registry = Some held }))
+    go true = found held frame body is (judged held (frame_of body)) refl
     go false = stays (Some held) frame answers.NotBuilt refl
 connects held frame (Err d) is = departed (Some held) frame (5 + place_of d)
 

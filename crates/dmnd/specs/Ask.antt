@@ -1,13 +1,18 @@
 -- The answer of a machine to each frame in the order of its checks, and the machine after it.
-use Rattle.std.specs.Prelude.{ℕ, ◌+◌, ◌-◌, ◌||◌, max, List, [], ◌∷◌, ◌++◌, length, nat_lt, if◌then◌else◌, Option, None, Some, Result, Ok, Err}
+use Rattle.std.specs.Prelude.{ℕ, ◌+◌, ◌||◌, List, [], ◌∷◌, ◌++◌, length, nat_lt, if◌then◌else◌, Option, None, Some, Result, Ok, Err}
 use Rattle.std.specs.Int.{w32, from_le_bytes}
+use Rattle.std.specs.Option.{option_map}
 use Rattle.dmn_block.specs.declared.body.ConnectBody.{ConnectBody}
 use Rattle.dmn_block.specs.declared.frame.BlockFrame.{BlockFrame}
 use Rattle.dmn_block.specs.Body.{connect_body}
 use Rattle.dmn_block.specs.Frames.{frame_of}
+use Rattle.dmn_block.specs.Shape.{Numbered, Refusal, first_broken, of_block, unnumbered}
 use Rattle.dmn_bytes.specs.declared.fault.Departure.{Departure}
 use Rattle.dmn_bytes.specs.Format.{whole}
 use Rattle.dmn_bytes.specs.Law.{place_of}
+use Rattle.dmn_bytes.specs.Points.{is_zero}
+use Rattle.dmn_bytes.specs.declared.hash.Hash256.{Hash256}
+use Rattle.dmn_rows.specs.declared.rule.Rule.TheVariants.{HashKnown, ZeroHash}
 use Rattle.dmn_rows.specs.declared.start.StartOutput.{StartOutput}
 use Rattle.dmn_rows.specs.declared.start.StartRecord.{StartRecord}
 use Rattle.dmn_rows.specs.Start.{start_record}
@@ -21,8 +26,8 @@ use Rattle.dmnd.specs.Frames.{Frame}
 use Rattle.dmnd.specs.Kinds.{kind_of}
 use Rattle.dmnd.specs.Plain.{is_plain}
 use Rattle.dmnd.specs.declared.machine.Machine.{Machine}
-use Rattle.dmnd.specs.State.{Held, profile_at, state_at, tip_state}
-use Rattle.dmnd.specs.Step.{Refusal, step}
+use Rattle.dmnd.specs.State.{Held, height_of, low_of, state_at, tip_state}
+use Rattle.dmnd.specs.Step.{refused_or, step}
 
 -- the machine before its start frame
 abbrev pub idle : Machine
@@ -51,10 +56,6 @@ started_by (Ok start) m = started_with start start.outputs m
 started_by (Err departure) m = (departs_at (place_of departure), m)
 
 -- ---- the tip and lists
-
--- the heights that are held: those from this one to the tip's
-abbrev pub low_of : Held → ℕ
-low_of held = max (held.start.first - 1) ((tip_state held).height - (profile_at held.start.profile).kept)
 
 abbrev pub tip_of : Held → Answer
 tip_of held = answers.Tip (tip_state held).height (tip_state held).hash (low_of held) (tip_state held).height
@@ -86,9 +87,17 @@ abbrev pub connected : Held → Result State Refusal → Answer × Machine
 connected held (Ok next) = (answers.Connected next.height next.hash, holding (record held { states = held.states ++ next ∷ [] }))
 connected held (Err refusal) = (answers.Refused refusal.0 refusal.1, holding held)
 
+-- rules 1 and 2: the hash is zero, or that of a held height
+unfoldable pub hash_rules : Held → Hash256 → Numbered
+hash_rules held hash = (1, of_block (is_zero hash.0) ZeroHash) ∷ (2, option_map (λ height. (HashKnown height, None)) (height_of held hash)) ∷ []
+
+-- these two, and then those of the step
+abbrev pub judged : Held → BlockFrame → Result State Refusal
+judged held block = refused_or (first_broken (unnumbered (hash_rules held block.hash))) (step (tip_state held) block)
+
 -- a plain block is judged
 unfoldable pub connect : Held → BlockFrame → Answer × Machine
-connect held block = if is_plain held block then connected held (step (tip_state held) block) else (answers.NotBuilt, holding held)
+connect held block = if is_plain held block then connected held (judged held block) else (answers.NotBuilt, holding held)
 
 unfoldable pub connect_by : Held → Result ConnectBody Departure → Answer × Machine
 connect_by held (Ok body) = connect held (frame_of body)

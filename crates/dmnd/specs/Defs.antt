@@ -1,10 +1,10 @@
 -- What the program sends for what it is given. A reader begins here; the parts are:
 --   Frames      request frames, and how a text is cut into them
 --   Kinds       the kinds of requests, by their numbers
---   State       what a registry holds: a start record, and the state after each block
+--   State       what a registry holds: a start record, the state after each block, and the heights that are held
 --   Register    the rows after the registrations of a block
---   Step        one block more: the next state or the rule that refuses it, and replay of blocks
---   Plain       the blocks that are built so far
+--   Step        one block more: the next state or the first rule that it breaks, and replay of blocks
+--   Plain       the blocks that are built so far: ordinary transactions and simple registrations
 --   Ask         the answer to each frame, and the machine after it
 --   Answers     what may be answered to frames, where want of memory is free
 --   Texts       the frame of each answer, of the bodies in Framed; RuleFields has what a refusal tells

@@ -1,5 +1,5 @@
--- The blocks that are built so far: plain ones, of at most one simple registration.
-use Rattle.std.specs.Prelude.{ℕ, ◌+◌, ◌==◌, ◌&&◌, ◌||◌, Bool, true, false, not, List, [], ◌∷◌, length, take, drop, nat_lt, nat_le, Option, None, Some}
+-- The blocks that are built so far: plain ones, of ordinary transactions and simple registrations.
+use Rattle.std.specs.Prelude.{ℕ, ◌+◌, ◌==◌, ◌&&◌, ◌||◌, Bool, true, false, not, List, [], ◌∷◌, ◌++◌, length, map, sum, take, drop, nat_lt, nat_le, Option, None, Some}
 use Rattle.std.specs.List.{list_any, list_all}
 use Rattle.std.specs.Str.{bytes_eq}
 use Rattle.dmn_block.specs.declared.frame.BlockFrame.{BlockFrame}
@@ -8,17 +8,15 @@ use Rattle.dmn_bytes.specs.declared.points.OutPoint.{OutPoint}
 use Rattle.dmn_bytes.specs.declared.points.Pay.{Pay}
 use Rattle.dmn_bytes.specs.declared.points.Service.{Service}
 use Rattle.dmn_bytes.specs.Points.{is_zero}
-use Rattle.dmn_merkle.specs.Defs.{merkle_root}
 use Rattle.dmn_payloads.specs.declared.payloads.ProReg.{ProReg}
 use Rattle.dmn_payloads.specs.Scripts.{pay_of}
 use Rattle.dmn_rows.specs.declared.row.MnRow.{MnRow}
-use Rattle.dmn_rows.specs.Start.{height_max}
 use Rattle.dmn_tx.specs.declared.tx.Tx.{Tx}
 use Rattle.dmn_tx.specs.declared.tx.TxIn.{TxIn}
 use Rattle.dmn_tx.specs.declared.tx.TxOut.{TxOut}
 use Rattle.dmn_tx.specs.Defs.{inputs_hash_of}
-use Rattle.dmnd.specs.declared.registry.State.{State}
-use Rattle.dmnd.specs.Register.{coinbase_payload_of, registration_of}
+use Rattle.dmn_tx.specs.Tx.{is_special}
+use Rattle.dmnd.specs.Register.{registration_of}
 use Rattle.dmnd.specs.State.{Held, profile_at, tip_state}
 
 abbrev pub same_hash : Hash256 → Hash256 → Bool
@@ -53,70 +51,87 @@ abbrev pub has_simple : ℕ → Tx → Option ProReg → Bool
 has_simple port tx None = false
 has_simple port tx (Some p) = is_simple port tx p
 
+-- ---- the transactions behind the coinbase
+
+-- an ordinary transaction, or a simple registration
+abbrev pub is_built : ℕ → Tx → Bool
+is_built port tx = not (is_special tx.version tx.kind) || has_simple port tx (registration_of tx)
+
+abbrev pub with_registered : Option ProReg → List ProReg → List ProReg
+with_registered None rest = rest
+with_registered (Some p) rest = p ∷ rest
+
+-- the registrations in these transactions
+abbrev pub registrations : List Tx → List ProReg
+registrations [] = []
+registrations (tx ∷ txs) = with_registered (registration_of tx) (registrations txs)
+
+abbrev pub same_service : Service → Service → Bool
+same_service a b = bytes_eq a.address b.address && (a.port == b.port)
+
+-- it has this owner's key, this operator's key or this service
+abbrev pub has_one : ProReg → List ℕ → List ℕ → Service → Bool
+has_one p owner operator service = bytes_eq p.owner owner || bytes_eq p.operator operator || same_service p.service service
+
+abbrev pub shares_with : ProReg → ProReg → Bool
+shares_with p q = has_one p q.owner q.operator q.service
+
+abbrev pub shares_with_row : ProReg → MnRow → Bool
+shares_with_row p row = has_one p row.owner row.operator row.service
+
+-- it shares nothing with a row, or with another of these registrations
+abbrev pub is_new : List MnRow → List ProReg → ProReg → Bool
+is_new rows others p = not (list_any (shares_with_row p) rows) && not (list_any (shares_with p) others)
+
+-- each of them shares nothing with a row, or with one that stands earlier
+abbrev pub are_new : List MnRow → List ProReg → List ProReg → Bool
+are_new rows earlier [] = true
+are_new rows earlier (p ∷ rest) = is_new rows earlier p && are_new rows (earlier ++ p ∷ []) rest
+
 -- ---- inputs
-
-abbrev pub is_null_point : OutPoint → Bool
-is_null_point point = is_zero point.hash.0 && (point.index == 4294967295)
-
-abbrev pub has_one_null : List TxIn → Bool
-has_one_null (input ∷ []) = is_null_point input.point
-has_one_null inputs = false
-
--- exactly one input, and that names no output
-abbrev pub is_coinbase : Tx → Bool
-is_coinbase tx = has_one_null tx.inputs
 
 -- an output of the transaction with this id
 abbrev pub is_output_of : OutPoint → Tx → Hash256 → Bool
 is_output_of point tx id = same_hash point.hash id && nat_lt point.index (length tx.outputs)
 
+-- an output of one of these transactions, whose ids these are
+abbrev pub is_output : OutPoint → List Tx → List Hash256 → Bool
+is_output point [] ids = false
+is_output point (tx ∷ txs) [] = false
+is_output point (tx ∷ txs) (id ∷ ids) = is_output_of point tx id || is_output point txs ids
+
 abbrev pub is_collateral : OutPoint → List MnRow → Bool
 is_collateral point rows = list_any (λ row. same_hash row.collateral.hash point.hash && (row.collateral.index == point.index)) rows
 
--- no input names a row's collateral or an output of one of two transactions
-abbrev pub are_apart : List TxIn → List MnRow → Tx → Hash256 → Tx → Hash256 → Bool
-are_apart inputs rows first id second other =
-    list_all (λ input. not (is_collateral input.point rows) && not (is_output_of input.point first id) && not (is_output_of input.point second other)) inputs
+-- no input names a row's collateral or an output of one of the transactions
+abbrev pub are_apart : List TxIn → List MnRow → List Tx → List Hash256 → Bool
+are_apart inputs rows txs ids = list_all (λ input. not (is_collateral input.point rows) && not (is_output input.point txs ids)) inputs
+
+abbrev pub all_apart : List MnRow → List Tx → List Hash256 → Bool
+all_apart rows txs ids = list_all (λ tx. are_apart tx.inputs rows txs ids) txs
 
 -- ---- a plain block
 
-abbrev pub is_some_payload : {A : Type 0} → Option A → Bool
-is_some_payload None = false
-is_some_payload (Some x) = true
-
--- a coinbase with a payload of its kind
-abbrev pub is_plain_coinbase : Tx → Bool
-is_plain_coinbase tx = is_coinbase tx && is_some_payload (coinbase_payload_of tx)
-
--- a coinbase alone
-abbrev pub is_plain_one : List MnRow → Tx → Hash256 → Bool
-is_plain_one rows first id = is_plain_coinbase first && nat_le (length first.outputs) 1000 && are_apart first.inputs rows first id first id
-
--- a coinbase, and a simple registration behind it where the list is empty
-abbrev pub is_plain_two : ℕ → List MnRow → Tx → Hash256 → Tx → Hash256 → Bool
-is_plain_two port rows first id second other =
-    is_plain_coinbase first && nat_le (length first.outputs + length second.outputs) 1000 && not (same_hash id other)
-    && not (is_coinbase second) && has_simple port second (registration_of second) && (length rows == 0)
-    && are_apart first.inputs rows first id second other && are_apart second.inputs rows first id second other
-
-abbrev pub are_plain : ℕ → List MnRow → List Tx → List Hash256 → Bool
-are_plain port rows (first ∷ []) (id ∷ []) = is_plain_one rows first id
-are_plain port rows (first ∷ second ∷ []) (id ∷ other ∷ []) = is_plain_two port rows first id second other
-are_plain port rows txs ids = false
-
-abbrev pub has_hash : List State → Hash256 → Bool
-has_hash states hash = list_any (λ state. same_hash state.hash hash) states
-
--- the hash of a height from the one before the first block to the tip
-abbrev pub is_held_hash : Held → Hash256 → Bool
-is_held_hash held hash = same_hash held.start.hash hash || has_hash held.states hash
-
--- at most three heights above the first, and a height of 32 bits that may have one above it
+-- at most three heights above the first
 abbrev pub is_early : Held → Bool
-is_early held = nat_le ((tip_state held).height + 1) (held.start.first + 3) && nat_le ((tip_state held).height + 1) height_max
+is_early held = nat_le ((tip_state held).height + 1) (held.start.first + 3)
+
+abbrev pub count_of_inputs : List Tx → ℕ
+count_of_inputs txs = sum (map (λ tx. length tx.inputs) txs)
+
+abbrev pub count_of_outputs : List Tx → ℕ
+count_of_outputs txs = sum (map (λ tx. length tx.outputs) txs)
+
+-- at most 1,000 transactions, inputs and outputs
+abbrev pub is_short : List Tx → Bool
+is_short txs = nat_le (length txs) 1000 && nat_le (count_of_inputs txs) 1000 && nat_le (count_of_outputs txs) 1000
+
+-- the transactions behind the first are built, and no two masternodes share a key or a service
+abbrev pub registers_apart : ℕ → List MnRow → List Tx → Bool
+registers_apart port rows txs = list_all (is_built port) txs && are_new rows [] (registrations txs)
 
 unfoldable pub is_plain : Held → BlockFrame → Bool
 is_plain held block =
-    is_early held && not (is_zero block.hash.0) && not (is_held_hash held block.hash)
-    && (length block.verdicts == 0) && same_hash block.merkle (merkle_root block.ids)
-    && are_plain (profile_at held.start.profile).port (tip_state held).rows block.txs block.ids
+    is_early held && is_short block.txs
+    && registers_apart (profile_at held.start.profile).port (tip_state held).rows (drop 1 block.txs)
+    && all_apart (tip_state held).rows block.txs block.ids

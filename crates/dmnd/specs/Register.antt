@@ -1,21 +1,18 @@
 -- The rows after the registrations of a block (DIP-0003).
-use Rattle.std.specs.Prelude.{ℕ, ◌==◌, ◌&&◌, Bool, List, [], ◌∷◌, ◌++◌, filter, Option, None, Some, replicate, slice_get, if◌then◌else◌}
-use Rattle.std.specs.Ordering.{is_lt}
+use Rattle.std.specs.Prelude.{ℕ, ◌==◌, ◌&&◌, List, [], ◌∷◌, ◌++◌, filter, Option, None, Some, replicate, slice_get, if◌then◌else◌}
 use Rattle.std.specs.Result.{result_ok}
 use Rattle.dmn_bytes.specs.declared.hash.Hash256.{Hash256}
 use Rattle.dmn_bytes.specs.declared.points.Pay.{Pay}
 use Rattle.dmn_bytes.specs.Format.{whole}
-use Rattle.dmn_bytes.specs.Points.{hash_cmp, is_zero}
-use Rattle.dmn_payloads.specs.declared.payloads.CbTx.{CbTx}
+use Rattle.dmn_bytes.specs.Points.{is_zero}
+use Rattle.dmn_merkle.specs.Defs.{zero_hash}
 use Rattle.dmn_payloads.specs.declared.payloads.ProReg.{ProReg}
-use Rattle.dmn_payloads.specs.Payloads.{cb, pro_reg}
+use Rattle.dmn_payloads.specs.Payloads.{pro_reg}
 use Rattle.dmn_payloads.specs.Scripts.{pay_of}
 use Rattle.dmn_rows.specs.declared.row.MnRow.{MnRow}
+use Rattle.dmn_sml.specs.Defs.{is_below}
 use Rattle.dmn_tx.specs.declared.tx.Tx.{Tx}
 use Rattle.dmn_tx.specs.declared.tx.TxOut.{TxOut}
-
-abbrev pub no_hash : Hash256
-no_hash = record { 0 = replicate 32 0 }
 
 -- a script that pays to none
 abbrev pub no_pay : Pay
@@ -25,10 +22,6 @@ no_pay = record { kind = 0; hash = replicate 20 0 }
 abbrev pub registration_of : Tx → Option ProReg
 registration_of tx = if (tx.version == 3) && (tx.kind == 1) then result_ok (whole pro_reg tx.payload) else None
 
--- the coinbase's payload, where the transaction is of version 3 and type 5 and has one
-abbrev pub coinbase_payload_of : Tx → Option CbTx
-coinbase_payload_of tx = if (tx.version == 3) && (tx.kind == 5) then result_ok (whole cb tx.payload) else None
-
 abbrev pub pay_of_output : Option TxOut → Pay
 pay_of_output None = no_pay
 pay_of_output (Some output) = pay_of output.script
@@ -37,7 +30,7 @@ pay_of_output (Some output) = pay_of output.script
 abbrev pub row_of : ℕ → Hash256 → Tx → ProReg → MnRow
 row_of height id tx p = record {
   hash = id;
-  confirmed = no_hash;
+  confirmed = zero_hash;
   registered = height;
   last_paid = 0;
   revived = 0;
@@ -55,9 +48,6 @@ row_of height id tx p = record {
   collateral = record { hash = id; index = p.collateral.index };
   script = pay_of_output (slice_get tx.outputs p.collateral.index);
 }
-
-abbrev pub is_below : Hash256 → Hash256 → Bool
-is_below a b = is_lt (hash_cmp a b)
 
 -- the rows with one more, in the order of their hashes
 abbrev pub with_row : MnRow → List MnRow → List MnRow

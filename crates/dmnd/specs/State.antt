@@ -1,5 +1,7 @@
 -- What a machine is in.
-use Rattle.std.specs.Prelude.{ℕ, ◌-◌, ◌==◌, List, [], ◌∷◌, Option, Some, slice_get, if◌then◌else◌}
+use Rattle.std.specs.Prelude.{ℕ, ◌-◌, ◌==◌, ◌&&◌, max, nat_le, List, [], ◌∷◌, Option, None, Some, slice_get, if◌then◌else◌}
+use Rattle.std.specs.Str.{bytes_eq}
+use Rattle.dmn_bytes.specs.declared.hash.Hash256.{Hash256}
 use Rattle.dmn_rows.specs.declared.profile.Profile.{Profile}
 use Rattle.dmn_rows.specs.declared.start.StartRecord.{StartRecord}
 use Rattle.dmn_rows.specs.Profile.{small_profile, main_profile}
@@ -28,3 +30,16 @@ state_at held height = if height == (held.start.first - 1) then Some (origin hel
 
 abbrev pub profile_at : ℕ → Profile
 profile_at id = if id == 1 then small_profile else main_profile
+
+-- the heights that are held: those from this one to the tip's
+abbrev pub low_of : Held → ℕ
+low_of held = max (held.start.first - 1) ((tip_state held).height - (profile_at held.start.profile).kept)
+
+-- the first of these states that is not below a height and has a hash
+abbrev pub height_in : ℕ → List State → Hash256 → Option ℕ
+height_in low [] hash = None
+height_in low (state ∷ states) hash = if nat_le low state.height && bytes_eq state.hash.0 hash.0 then Some state.height else height_in low states hash
+
+-- the held height of a hash, where there is one
+abbrev pub height_of : Held → Hash256 → Option ℕ
+height_of held hash = height_in (low_of held) (origin held.start ∷ held.states) hash

@@ -1,40 +1,47 @@
 -- One block more: the next state, or the rule that refuses the block. And replay of blocks from the start record on.
-use Rattle.std.specs.Prelude.{ℕ, ◌+◌, ◌==◌, not, List, [], ◌∷◌, ◌++◌, Option, None, Some, Result, Ok, Err, if◌then◌else◌}
+use Rattle.std.specs.Prelude.{◌+◌, not, List, [], ◌∷◌, ◌++◌, Option, None, Some, Result, Ok, Err}
+use Rattle.std.specs.Option.{option_or}
 use Rattle.std.specs.Str.{bytes_eq}
 use Rattle.dmn_block.specs.declared.frame.BlockFrame.{BlockFrame}
+use Rattle.dmn_block.specs.Shape.{Refusal, broken_rule, of_block}
+use Rattle.dmn_bytes.specs.declared.fault.Departure.{Departure}
+use Rattle.dmn_bytes.specs.declared.hash.Hash256.{Hash256}
+use Rattle.dmn_bytes.specs.Format.{whole}
 use Rattle.dmn_payloads.specs.declared.payloads.CbTx.{CbTx}
-use Rattle.dmn_rows.specs.declared.row.MnRow.{MnRow}
-use Rattle.dmn_rows.specs.declared.rule.Rule.{Rule}
-use Rattle.dmn_rows.specs.declared.rule.Rule.TheVariants.{NotNext, CbPayload, CbHeight, CbRoot}
+use Rattle.dmn_payloads.specs.Payloads.{cb}
+use Rattle.dmn_rows.specs.declared.rule.Rule.TheVariants.{CbRoot}
 use Rattle.dmn_rows.specs.declared.start.StartRecord.{StartRecord}
 use Rattle.dmn_sml.specs.Defs.{root_of, simple}
 use Rattle.dmn_tx.specs.declared.tx.Tx.{Tx}
 use Rattle.dmnd.specs.declared.registry.State.{State}
-use Rattle.dmnd.specs.Register.{coinbase_payload_of, rows_after}
+use Rattle.dmnd.specs.Register.{rows_after}
 use Rattle.dmnd.specs.State.{origin, last_of}
 
--- the rule that a block breaks, and the transaction that breaks it
-abbrev pub Refusal : Type 0
-Refusal = Rule × Option ℕ
+-- the state after a block that no rule refuses
+abbrev pub next_state : State → BlockFrame → State
+next_state tip block = record { height = tip.height + 1; hash = block.hash; rows = rows_after (tip.height + 1) block.txs block.ids tip.rows }
 
-abbrev pub coinbase_payload : List Tx → Option CbTx
-coinbase_payload [] = None
-coinbase_payload (first ∷ txs) = coinbase_payload_of first
+-- another root than this in a coinbase's payload (DIP-0004)
+abbrev pub other_root : Hash256 → Result CbTx Departure → Option Refusal
+other_root root (Ok value) = of_block (not (bytes_eq value.rows.0 root.0)) (CbRoot value.rows root)
+other_root root (Err departure) = None
 
--- rules 3, 13 and 84 in their order
-unfoldable pub step_with : State → BlockFrame → CbTx → List MnRow → Result State Refusal
-step_with tip block cb rows =
-    if not (bytes_eq block.prev.0 tip.hash.0) then Err (NotNext tip.hash, None)
-    else if not (cb.height == (tip.height + 1)) then Err (CbHeight cb.height, Some 0)
-    else if not (bytes_eq cb.rows.0 (root_of (simple rows)).0) then Err (CbRoot cb.rows (root_of (simple rows)), None)
-    else Ok (record { height = tip.height + 1; hash = block.hash; rows = rows })
+-- rule 84: the coinbase tells the root of the list after the block
+abbrev pub list_rule : Hash256 → List Tx → Option Refusal
+list_rule root [] = None
+list_rule root (coinbase ∷ txs) = other_root root (whole cb coinbase.payload)
 
-abbrev pub step_by : State → BlockFrame → Option CbTx → Result State Refusal
-step_by tip block None = Err (CbPayload, Some 0)
-step_by tip block (Some cb) = step_with tip block cb (rows_after (tip.height + 1) block.txs block.ids tip.rows)
+-- the first broken rule of a block behind the tip: one on its shape, or rule 84
+unfoldable pub step_rule : State → BlockFrame → Option Refusal
+step_rule tip block = option_or (broken_rule block tip.hash tip.height) (list_rule (root_of (simple (next_state tip block).rows)) block.txs)
+
+-- a refusal, or else this
+abbrev pub refused_or : Option Refusal → Result State Refusal → Result State Refusal
+refused_or (Some refusal) result = Err refusal
+refused_or None result = result
 
 abbrev pub step : State → BlockFrame → Result State Refusal
-step tip block = step_by tip block (coinbase_payload block.txs)
+step tip block = refused_or (step_rule tip block) (Ok (next_state tip block))
 
 -- ---- replay
 

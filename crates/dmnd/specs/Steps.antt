@@ -1,5 +1,8 @@
 -- What the private parts of a turn do to a line that tells its bytes.
 use Rattle.std.specs.Prelude.{◌≡◌, ◌≢◌, ℕ, ◌<◌, ◌≤◌, ◌⊎◌, false, List, [], ◌++◌, length, take, drop, nat_lt, if◌then◌else◌, Option, None, Some, Result, Ok, Err, IsSome}
+use Rattle.dmn_block.specs.declared.fault.ShapeFault.{ShapeFault}
+use Rattle.dmn_block.specs.declared.fault.ShapeFault.TheVariants as faults
+use Rattle.dmn_block.specs.Shape.{Refusal}
 use Rattle.dmn_bytes.specs.declared.fault.Memory.{Memory}
 use Rattle.dmn_bytes.specs.Format.{whole}
 use Rattle.dmn_outside.specs.declared.line.Failed.{Failed}
@@ -12,8 +15,6 @@ use Rattle.dmnd.specs.declared.feed.Turn.{Turn}
 use Rattle.dmnd.specs.declared.feed.Turn.TheVariants as turns
 use Rattle.dmnd.specs.declared.frame.Head.{Head}
 use Rattle.dmnd.specs.declared.frame.Head.TheVariants as heads
-use Rattle.dmnd.specs.declared.connect.Judged.{Judged}
-use Rattle.dmnd.specs.declared.connect.Judged.TheVariants as judgements
 use Rattle.dmnd.specs.declared.kind.Kind.{Kind}
 use Rattle.dmnd.specs.declared.kind.Kind.TheVariants as kinds
 use Rattle.dmnd.specs.declared.registry.State.{State}
@@ -24,7 +25,6 @@ use Rattle.dmnd.specs.Answers.{MayAnswer}
 use Rattle.dmnd.specs.Frames.{Frame, frame_at}
 use Rattle.dmnd.specs.Kinds.{kind_of}
 use Rattle.dmnd.specs.Ask.{answer_of, asked, longest, started_by}
-use Rattle.dmnd.specs.Step.{Refusal}
 use Rattle.dmnd.specs.Outcome.{SentBefore}
 use Rattle.dmnd.specs.declared.machine.Machine.{Machine}
 use Rattle.dmnd.specs.Texts.{answer_text, grows, reply_text}
@@ -81,10 +81,11 @@ Starts body answer m n = (started_by (whole start_record body) m ≡ (answer, n)
 abbrev pub Connects : List ℕ → Answer → Machine → Machine → Type 0
 Connects body answer m n = (asked m (Some kinds.Connect) body ≡ (answer, n)) ⊎ ((answer ≡ answers.Memory) × (n ≡ m))
 
--- what is found of a block is what its step gives
-abbrev pub Judges : Judged → Result State Refusal → Type 0
-Judges (judgements.Next next) result = result ≡ Ok next
-Judges (judgements.Refused rule tx) result = result ≡ Err (rule, tx)
+-- what is found of a block is what is defined, unless memory ran out
+abbrev pub Judges : Result State Refusal → Result State ShapeFault → Type 0
+Judges judged (Ok next) = judged ≡ Ok next
+Judges judged (Err (faults.Broken rule tx)) = judged ≡ Err (rule, tx)
+Judges judged (Err faults.Memory) = Unit {0}
 
 -- a reply to an answer, or to want of memory: the answer's frame, or that of Memory where it grows
 abbrev pub RepliesTo : List ℕ → Result Answer Memory → Type 0

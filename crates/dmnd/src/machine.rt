@@ -3,15 +3,16 @@
 ghost use Rattle.std.specs.Prelude.{◌≡◌, ◌≤◌, false, length, IfOk, IsSome};
 ghost use Rattle.dmnd.specs.declared.kind.Kind.TheVariants.{Tip as TipKind, List as ListKind};
 ghost use Rattle.dmn_sml.specs.Defs.{root_of, simple};
-ghost use Rattle.dmnd.specs.Ask.{idle, list_at, longest, low_of, tip_of};
+ghost use Rattle.dmnd.specs.Ask.{idle, list_at, longest, tip_of};
 ghost use Rattle.dmnd.specs.State.{state_at, tip_state};
 ghost use Rattle.dmnd.specs.Steps.{AnswersFront, Connects, Plans, Starts};
 ghost use Rattle.dmnd.specs.Texts.{grows};
 
 use crate::answer::Answer;
-use crate::connect::{connect, entries_of, root_of_rows};
+use crate::connect::connect;
 use crate::kind::Kind;
 use crate::registry::Registry;
+use crate::simple::{entries_of, root_of_rows};
 use dmn_block::{BlockFault, read_block};
 use dmn_bytes::{Hash256, Memory};
 use dmn_rows::{MnRow, StartFault, read_start};
@@ -41,14 +42,6 @@ pub enum Plan {
     Connect,
 }
 
-fn low_of(registry: &Registry) -> u32
-    ensures { result ≡ low_of registry.now }
-{
-    let kept = registry.profile().kept;
-    let low = registry.tip_height().saturating_sub(kept);
-    low.max(registry.first() - 1)
-}
-
 fn tip_of(registry: &Registry) -> Answer
     ensures text { result ≡ tip_of registry.now }
     ensures fixed { grows result ≡ false }
@@ -57,7 +50,7 @@ fn tip_of(registry: &Registry) -> Answer
     Answer::Tip {
         height,
         hash: registry.tip_hash(),
-        low: low_of(registry),
+        low: registry.low(),
         top: height,
     }
 }
@@ -78,7 +71,7 @@ fn list_of(alloc: Global, height: u32, hash: Hash256, rows: &[MnRow]) -> Result<
 fn list_at(alloc: Global, registry: &Registry, height: u32) -> Result<Answer, Memory>
     ensures { IfOk result (λ answer. answer ≡ list_at registry.now height) }
 {
-    let low = low_of(registry);
+    let low = registry.low();
     let high = registry.tip_height();
     if height < low || high < height {
         return Ok(Answer::NotHeld { low, high });

@@ -9,9 +9,11 @@ mod kind;
 mod laws;
 mod machine;
 mod plain;
+mod register;
 mod registry;
 mod reply;
 mod short;
+mod simple;
 mod status;
 #[cfg(test)]
 mod tests;

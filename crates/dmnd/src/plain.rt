@@ -1,20 +1,24 @@
-//! The blocks that are built so far: plain ones, of at most one simple registration.
+//! The blocks that are built so far: plain ones, of ordinary transactions and simple registrations.
 
-ghost use Rattle.std.specs.Prelude.{◌≡◌, ◌≢◌, ◌+◌, None, IfOk, length, nat_le};
+ghost use Rattle.std.specs.Prelude.{◌≡◌, [], None, IfOk, drop, min, nat_le};
 ghost use Rattle.std.specs.Result.{result_ok};
+ghost use Rattle.std.specs.List.{list_all, list_any};
 ghost use Rattle.dmn_bytes.specs.Format.{whole};
-ghost use Rattle.dmn_payloads.specs.Payloads.{cb, pro_reg};
-ghost use Rattle.dmnd.specs.Plain.{pays_another, is_mapped, has_collateral, has_keys, is_bare, is_simple, has_simple, is_null_point, is_coinbase, is_output_of, is_collateral, are_apart, is_plain_coinbase, is_plain_one, is_plain_two, are_plain, has_hash, is_held_hash, is_early, is_plain};
-ghost use Rattle.dmnd.specs.Register.{coinbase_payload_of, registration_of};
+ghost use Rattle.dmn_payloads.specs.Payloads.{pro_reg};
+ghost use Rattle.dmnd.specs.Plain.{pays_another, is_mapped, has_collateral, has_keys, is_bare, is_simple, has_simple, is_built, registrations, same_service, has_one, shares_with, shares_with_row, is_new, are_new, is_output_of, is_output, is_collateral, are_apart, all_apart, is_early, count_of_inputs, count_of_outputs, is_short, registers_apart, is_plain};
+ghost use Rattle.dmn_tx.specs.Tx.{is_special};
 
-use crate::registry::{Registry, State};
+use crate::register::registration_of;
+use crate::registry::Registry;
 use dmn_block::BlockFrame;
-use dmn_bytes::{Hash256, Memory, OutPoint, Pay, Service, is_zero};
-use dmn_merkle::root;
-use dmn_payloads::{CbTx, PayloadFault, ProReg, read_cb, read_pro_reg, script_kind};
+use dmn_bytes::{Hash256, Items, Memory, OutPoint, Pay, Service, is_zero};
+use dmn_payloads::{ProReg, script_kind};
 use dmn_rows::MnRow;
 use dmn_tx::{Tx, TxIn, TxOut, inputs_hash};
 use std::alloc::Global;
+
+/// As many transactions, inputs or outputs as a plain block may have.
+const MOST: usize = 1_000;
 
 fn pays_another(pay: &Pay, registration: &ProReg) -> bool
     ensures { result ≡ pays_another pay.now registration.now }
@@ -80,19 +84,107 @@ fn has_simple(port: u16, tx: &Tx, registration: &Option<ProReg>) -> bool
     }
 }
 
-fn is_null_point(point: &OutPoint) -> bool
-    ensures { result ≡ is_null_point point.now }
+fn is_special(tx: &Tx) -> bool
+    ensures { result ≡ is_special tx.now.version tx.now.kind }
 {
-    is_zero(&point.hash.0) && point.index == u32::MAX
+    tx.version == 3 && tx.kind != 0
 }
 
-fn is_coinbase(tx: &Tx) -> bool
-    ensures { result ≡ is_coinbase tx.now }
+fn is_built(alloc: Global, port: u16, tx: &Tx) -> Result<bool, Memory>
+    ensures { IfOk result (λ built. built ≡ is_built port tx.now) }
 {
-    match tx.inputs.as_slice() {
-        [input] => is_null_point(&input.point),
-        _ => false,
+    if !is_special(tx) {
+        return Ok(true);
     }
+    let registration = registration_of(alloc, tx)?;
+    Ok(has_simple(port, tx, &registration))
+}
+
+fn are_built(alloc: Global, port: u16, txs: &[Tx]) -> Result<bool, Memory>
+    ensures { IfOk result (λ built. built ≡ list_all (is_built port) txs.now) }
+{
+    for tx in txs {
+        if !is_built(alloc, port, tx)? {
+            return Ok(false);
+        }
+    }
+    Ok(true)
+}
+
+fn registrations(alloc: Global, txs: &[Tx]) -> Result<Items<ProReg>, Memory>
+    ensures { IfOk result (λ found. found ≡ registrations txs.now) }
+{
+    let mut found = Vec::new(alloc);
+    for tx in txs {
+        if let Some(registration) = registration_of(alloc, tx)? {
+            found.push(registration).map_err(|_| Memory)?;
+        }
+    }
+    Ok(Items::from_vec(found))
+}
+
+fn same_service(one: &Service, other: &Service) -> bool
+    ensures { result ≡ same_service one.now other.now }
+{
+    one.address == other.address && one.port == other.port
+}
+
+fn has_one(registration: &ProReg, owner: &[u8; 20], operator: &[u8; 48], service: &Service) -> bool
+    ensures { result ≡ has_one registration.now owner.now operator.now service.now }
+{
+    registration.owner == *owner
+        || registration.operator == *operator
+        || same_service(&registration.service, service)
+}
+
+fn shares_with(registration: &ProReg, other: &ProReg) -> bool
+    ensures { result ≡ shares_with registration.now other.now }
+{
+    has_one(registration, &other.owner, &other.operator, &other.service)
+}
+
+fn shares_with_row(registration: &ProReg, row: &MnRow) -> bool
+    ensures { result ≡ shares_with_row registration.now row.now }
+{
+    has_one(registration, &row.owner, &row.operator, &row.service)
+}
+
+fn shares_with_any(registration: &ProReg, others: &[ProReg]) -> bool
+    ensures { result ≡ list_any (shares_with registration.now) others.now }
+{
+    others.iter().any(|other| shares_with(registration, other))
+}
+
+fn shares_with_any_row(registration: &ProReg, rows: &[MnRow]) -> bool
+    ensures { result ≡ list_any (shares_with_row registration.now) rows.now }
+{
+    rows.iter().any(|row| shares_with_row(registration, row))
+}
+
+fn is_new(rows: &[MnRow], others: &[ProReg], registration: &ProReg) -> bool
+    ensures { result ≡ is_new rows.now others.now registration.now }
+{
+    !shares_with_any_row(registration, rows) && !shares_with_any(registration, others)
+}
+
+fn are_new(rows: &[MnRow], registrations: &[ProReg]) -> bool
+    ensures { result ≡ are_new rows.now [] registrations.now }
+{
+    for place in 0..registrations.len() {
+        if !is_new(rows, &registrations[..place], &registrations[place]) {
+            return false;
+        }
+    }
+    true
+}
+
+fn registers_apart(alloc: Global, port: u16, rows: &[MnRow], txs: &[Tx]) -> Result<bool, Memory>
+    ensures { IfOk result (λ apart. apart ≡ registers_apart port rows.now txs.now) }
+{
+    if !are_built(alloc, port, txs)? {
+        return Ok(false);
+    }
+    Ok(are_new(rows, registrations(alloc, txs)?.as_slice()))
 }
 
 fn is_output_of(point: &OutPoint, tx: &Tx, id: &Hash256) -> bool
@@ -101,168 +193,77 @@ fn is_output_of(point: &OutPoint, tx: &Tx, id: &Hash256) -> bool
     point.hash == *id && (point.index as usize) < tx.outputs.len()
 }
 
+fn is_output(point: &OutPoint, txs: &[Tx], ids: &[Hash256]) -> bool
+    ensures { result ≡ is_output point.now txs.now ids.now }
+{
+    for place in 0..txs.len().min(ids.len()) {
+        if is_output_of(point, &txs[place], &ids[place]) {
+            return true;
+        }
+    }
+    false
+}
+
 fn is_collateral(point: &OutPoint, rows: &[MnRow]) -> bool
     ensures { result ≡ is_collateral point.now rows.now }
 {
     rows.iter().any(|row| row.collateral.hash == point.hash && row.collateral.index == point.index)
 }
 
-fn are_apart(
-    inputs: &[TxIn],
-    rows: &[MnRow],
-    first: &Tx,
-    id: &Hash256,
-    second: &Tx,
-    other: &Hash256,
-) -> bool
-    ensures { result ≡ are_apart inputs.now rows.now first.now id.now second.now other.now }
+fn are_apart(inputs: &[TxIn], rows: &[MnRow], txs: &[Tx], ids: &[Hash256]) -> bool
+    ensures { result ≡ are_apart inputs.now rows.now txs.now ids.now }
 {
-    inputs.iter().all(|input| {
-        !is_collateral(&input.point, rows)
-            && !is_output_of(&input.point, first, id)
-            && !is_output_of(&input.point, second, other)
-    })
+    inputs.iter().all(|input| !is_collateral(&input.point, rows)
+        && !is_output(&input.point, txs, ids))
 }
 
-// No payload, unless memory ran out.
-fn none_but_memory<T>(fault: PayloadFault) -> Result<Option<T>, Memory>
-    ensures { IfOk result (λ payload. (payload ≡ None) × (fault ≢ PayloadFault.Memory)) }
+fn all_apart(rows: &[MnRow], txs: &[Tx], ids: &[Hash256]) -> bool
+    ensures { result ≡ all_apart rows.now txs.now ids.now }
 {
-    match fault {
-        PayloadFault::Memory => Err(Memory),
-        PayloadFault::PayloadVersion { .. } => Ok(None),
-        PayloadFault::PayloadForm { .. } => Ok(None),
-    }
-}
-
-fn coinbase_payload_in(alloc: Global, payload: &[u8]) -> Result<Option<CbTx>, Memory>
-    ensures { IfOk result (λ found. found ≡ result_ok (whole cb payload.now)) }
-{
-    match read_cb(alloc, payload) {
-        Ok(found) => Ok(Some(found)),
-        Err(fault) => none_but_memory(fault),
-    }
-}
-
-fn registration_in(alloc: Global, payload: &[u8]) -> Result<Option<ProReg>, Memory>
-    ensures { IfOk result (λ found. found ≡ result_ok (whole pro_reg payload.now)) }
-{
-    match read_pro_reg(alloc, payload) {
-        Ok(found) => Ok(Some(found)),
-        Err(fault) => none_but_memory(fault),
-    }
-}
-
-/// The coinbase's payload, where there is one.
-pub fn coinbase_payload_of(alloc: Global, tx: &Tx) -> Result<Option<CbTx>, Memory>
-    ensures { IfOk result (λ payload. payload ≡ coinbase_payload_of tx.now) }
-{
-    if tx.version == 3 && tx.kind == 5 {
-        coinbase_payload_in(alloc, tx.payload.as_slice())
-    } else {
-        Ok(None)
-    }
-}
-
-/// The registration in a transaction, where there is one.
-pub fn registration_of(alloc: Global, tx: &Tx) -> Result<Option<ProReg>, Memory>
-    ensures { IfOk result (λ registration. registration ≡ registration_of tx.now) }
-{
-    if tx.version == 3 && tx.kind == 1 {
-        registration_in(alloc, tx.payload.as_slice())
-    } else {
-        Ok(None)
-    }
-}
-
-#[tactic(auto, unfolding(crate::specs::Register::coinbase_payload_of))]
-fn is_plain_coinbase(alloc: Global, tx: &Tx) -> Result<bool, Memory>
-    ensures { IfOk result (λ plain. plain ≡ is_plain_coinbase tx.now) }
-{
-    let payload = coinbase_payload_of(alloc, tx)?;
-    Ok(is_coinbase(tx) && payload.is_some())
-}
-
-// A coinbase alone.
-fn is_plain_one(alloc: Global, rows: &[MnRow], first: &Tx, id: &Hash256) -> Result<bool, Memory>
-    ensures { IfOk result (λ plain. plain ≡ is_plain_one rows.now first.now id.now) }
-{
-    let payload = is_plain_coinbase(alloc, first)?;
-    Ok(
-        payload
-            && first.outputs.len() <= 1_000
-            && are_apart(first.inputs.as_slice(), rows, first, id, first, id),
-    )
-}
-
-// A coinbase, and a simple registration behind it where the list is empty.
-fn is_plain_two(
-    alloc: Global,
-    port: u16,
-    rows: &[MnRow],
-    first: &Tx,
-    id: &Hash256,
-    second: &Tx,
-    other: &Hash256,
-) -> Result<bool, Memory>
-    ensures { IfOk result (λ plain. plain ≡ is_plain_two port rows.now first.now id.now second.now other.now) }
-{
-    let payload = is_plain_coinbase(alloc, first)?;
-    let registration = registration_of(alloc, second)?;
-    Ok(
-        payload
-            && has_few_outputs(first, second)
-            && id != other
-            && !is_coinbase(second)
-            && has_simple(port, second, &registration)
-            && rows.is_empty()
-            && are_apart(first.inputs.as_slice(), rows, first, id, second, other)
-            && are_apart(second.inputs.as_slice(), rows, first, id, second, other),
-    )
-}
-
-fn has_few_outputs(first: &Tx, second: &Tx) -> bool
-    ensures { result ≡ nat_le (length first.now.outputs + length second.now.outputs) 1000 }
-{
-    let few = first.outputs.len();
-    few <= 1_000 && second.outputs.len() <= 1_000 - few
-}
-
-fn are_plain(
-    alloc: Global,
-    port: u16,
-    rows: &[MnRow],
-    txs: &[Tx],
-    ids: &[Hash256],
-) -> Result<bool, Memory>
-    ensures { IfOk result (λ plain. plain ≡ are_plain port rows.now txs.now ids.now) }
-{
-    match (txs, ids) {
-        ([first], [id]) => is_plain_one(alloc, rows, first, id),
-        ([first, second], [id, other]) => {
-            is_plain_two(alloc, port, rows, first, id, second, other)
-        }
-        _ => Ok(false),
-    }
-}
-
-fn has_hash(states: &[State], hash: &Hash256) -> bool
-    ensures { result ≡ has_hash states.now hash.now }
-{
-    states.iter().any(|state| state.hash == *hash)
-}
-
-fn is_held_hash(registry: &Registry, hash: &Hash256) -> bool
-    ensures { result ≡ is_held_hash registry.now hash.now }
-{
-    registry.start_hash() == *hash || has_hash(registry.states(), hash)
+    txs.iter()
+        .all(|tx| are_apart(tx.inputs.as_slice(), rows, txs, ids))
 }
 
 fn is_early(registry: &Registry) -> bool
     ensures { result ≡ is_early registry.now }
 {
-    let height = u64::from(registry.tip_height()) + 1;
-    height <= u64::from(registry.first()) + 3 && height <= 4_294_967_294
+    u64::from(registry.tip_height()) + 1 <= u64::from(registry.first()) + 3
+}
+
+fn has_few_inputs(txs: &[Tx]) -> bool
+    ensures { result ≡ nat_le (count_of_inputs txs.now) 1000 }
+{
+    let mut count: usize = 0;
+    for tx in txs {
+        count = count.saturating_add(tx.inputs.len());
+    }
+    count <= MOST
+}
+
+fn has_few_outputs(txs: &[Tx]) -> bool
+    ensures { result ≡ nat_le (count_of_outputs txs.now) 1000 }
+{
+    let mut count: usize = 0;
+    for tx in txs {
+        count = count.saturating_add(tx.outputs.len());
+    }
+    count <= MOST
+}
+
+fn is_short(txs: &[Tx]) -> bool
+    ensures { result ≡ is_short txs.now }
+{
+    txs.len() <= MOST && has_few_inputs(txs) && has_few_outputs(txs)
+}
+
+// The transactions behind the first.
+fn behind_first(txs: &[Tx]) -> &[Tx]
+    ensures { result.now ≡ drop 1 txs.now }
+{
+    match txs {
+        [] => &[],
+        [_, behind @ ..] => behind,
+    }
 }
 
 /// Whether the block is plain.
@@ -270,16 +271,12 @@ fn is_early(registry: &Registry) -> bool
 pub fn is_plain(alloc: Global, registry: &Registry, block: &BlockFrame) -> Result<bool, Memory>
     ensures { IfOk result (λ plain. plain ≡ is_plain registry.now block.now) }
 {
+    let txs = block.txs.as_slice();
+    if !is_early(registry) || !is_short(txs) {
+        return Ok(false);
+    }
     let port = registry.profile().port;
     let rows = registry.tip_rows();
-    let ids = block.ids.as_slice();
-    let right = are_plain(alloc, port, rows, block.txs.as_slice(), ids)?;
-    Ok(
-        is_early(registry)
-            && !is_zero(&block.hash.0)
-            && !is_held_hash(registry, &block.hash)
-            && block.verdicts.is_empty()
-            && block.merkle == root(alloc, ids)?
-            && right,
-    )
+    let apart = registers_apart(alloc, port, rows, behind_first(txs))?;
+    Ok(apart && all_apart(rows, txs, block.ids.as_slice()))
 }

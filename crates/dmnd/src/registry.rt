@@ -3,7 +3,7 @@
 ghost use Rattle.std.specs.Prelude.{◌≡◌, ◌++◌, ◌∷◌, [], IfNone, IfSome, OnOk, OnErr};
 ghost use Rattle.dmnd.specs.declared.registry.State.{State};
 ghost use Rattle.dmn_rows.specs.Defs.{KeepsBounds};
-ghost use Rattle.dmnd.specs.State.{last_of, profile_at, tip_state};
+ghost use Rattle.dmnd.specs.State.{height_in, height_of, last_of, low_of, profile_at, tip_state};
 
 use dmn_bytes::{Hash256, Items, Memory};
 use dmn_rows::{MnRow, Profile, StartRecord, profile_of};
@@ -44,6 +44,18 @@ fn last(states: &[State]) -> Option<&State>
     ensures some { IfSome result (λ s. (d : State) → last_of d states.now ≡ s.now) }
 {
     states.last()
+}
+
+// The height of the first of these states that is not below a height and has a hash.
+fn height_in(low: u32, states: &[State], hash: &Hash256) -> Option<u32>
+    ensures { result ≡ height_in low states.now hash.now }
+{
+    for state in states {
+        if low <= state.height && state.hash == *hash {
+            return Some(state.height);
+        }
+    }
+    None
 }
 
 impl Registry {
@@ -111,6 +123,27 @@ impl Registry {
         match last(&self.states) {
             None => &[],
             Some(state) => state.rows.as_slice(),
+        }
+    }
+
+    /// The lowest height that is held.
+    pub fn low(&self) -> u32
+        ensures { result ≡ low_of self.now }
+    {
+        let low = self.tip_height().saturating_sub(self.profile().kept);
+        low.max(self.start.first - 1)
+    }
+
+    /// The held height of a hash, where there is one.
+    pub fn height_of(&self, hash: &Hash256) -> Option<u32>
+        ensures { result ≡ height_of self.now hash.now }
+    {
+        let low = self.low();
+        let before = self.start.first - 1;
+        if low <= before && self.start.hash == *hash {
+            Some(before)
+        } else {
+            height_in(low, &self.states, hash)
         }
     }
 

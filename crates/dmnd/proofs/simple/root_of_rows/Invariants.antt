@@ -1,7 +1,7 @@
 use Rattle.std.proofs.Common.{◌≡◌, take, map}
 use Rattle.dmn_merkle.specs.OnePass.{count_of, Holds}
 use Rattle.dmn_sml.specs.Defs.{leaf, simple}
-use Rattle.dmnd.proofs.connect.root_of_rows.Given as goal
+use Rattle.dmnd.proofs.simple.root_of_rows.Given as goal
 
 abbrev pub invariant-loop-row : goal.invariant-loop-row
 invariant-loop-row l = record {

@@ -1,6 +1,6 @@
 use Rattle.std.proofs.Common.{◌≡◌, take}
 use Rattle.dmn_sml.specs.Defs.{simple}
-use Rattle.dmnd.proofs.connect.entries_of.Given as goal
+use Rattle.dmnd.proofs.simple.entries_of.Given as goal
 
 abbrev pub invariant-loop-row : goal.invariant-loop-row
 invariant-loop-row l = record {

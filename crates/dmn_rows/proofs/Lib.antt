@@ -1,1 +1,5 @@
 pub mod Found
+pub mod Sorted
+pub mod Keys
+pub mod Lookups
+pub mod Distinct

@@ -1,17 +1,28 @@
 -- What a registry starts from, and the numbers by which it works. A reader begins here; the parts are:
 --   Profile  the two profiles, by their tables
 --   Row      a stored row, and the row that it stands for at a height
+--   Rows     what is looked up in a list of rows and in a list of outputs, and how the lists change
+--   Sorted   lists in strictly ascending order of a key, and their changes
+--   Listing  a list of rows and a list of outputs, as they are kept
+--   Distinct keys that no two rows have
 --   Start    the start record's format, field by field
 --   Fault    what a fault of a start record says of its text
 --   Verdict  a verdict's format, field by field
---   Rule     the rules' numbers
+--   Rule     the rules' numbers and names
 use Rattle.std.specs.Prelude.{◌≡◌, ℕ, ◌≤◌, List, length}
 use Rattle.dmn_rows.specs.declared.start.StartRecord.{StartRecord}
 use Rattle.dmn_rows.specs.Start.{start_record, height_max, most_outputs}
 
+-- the record keeps its format's bounds and order, so it has a text
+abbrev pub IsStart : StartRecord → Type 0
+IsStart = start_record.Fits
+
+abbrev pub start_text : StartRecord → List ℕ
+start_text = start_record.text
+
 -- the text is, whole, that of this start record
 abbrev pub IsStartText : List ℕ → StartRecord → Type 0
-IsStartText text start = start_record.Fits start × (text ≡ start_record.text start)
+IsStartText text start = IsStart start × (text ≡ start_text start)
 
 -- the bounds that each start record keeps
 pub record KeepsBounds (start : StartRecord) : Type 0 where

@@ -1,6 +1,11 @@
 pub mod Defs
 pub mod Profile
 pub mod Row
+pub mod Rows
+pub mod Sorted
+pub mod Keys
+pub mod Listing
+pub mod Distinct
 pub mod Rule
 pub mod Start
 pub mod Fault

@@ -1,5 +1,6 @@
--- The number of each rule.
-use Rattle.std.specs.Prelude.{ℕ}
+-- The number and the name of each rule.
+use Rattle.std.specs.Prelude.{ℕ, List, ◌++◌, codes}
+use Rattle.std.specs.Fmt.{decimal}
 use Rattle.dmn_rows.specs.declared.rule.Rule.{Rule}
 use Rattle.dmn_rows.specs.declared.rule.Rule.TheVariants.{ZeroHash, HashKnown, NotNext, HeightLimit, NoCoinbase, SecondCoinbase, DuplicateTx, BadMerkle, VerdictForm, CbPayload, CbVersion, CbHeight, UnknownType, PayloadVersion, PayloadForm, InputsHash, RegType, RegMode, NullKey, PayoutForm, PayoutKey, RewardRange, AddressForm, SigPresence, CollateralIndex, CollateralValue, CollateralScript, CollateralUnknown, CollateralKeyless, CollateralKey, DupOwner, DupOperator, DupAddress, NoRow, UpAddress, UpDupAddress, OperatorPayoutForm, OperatorPayoutUnasked, NoOperator, UpMode, UpNullKey, UpPayoutForm, UpPayoutKey, UpDupOperator, UpCollateralKey, RevokeReason, QuorumVersion, QuorumType, QuorumHeight, QuorumWindow, QuorumBase, QuorumSecond, QuorumDone, QuorumBits, QuorumFew, VerdictMissing, VerdictOther, VerdictNo, QuorumMissing, TooManyChanges, TooManyMasternodes, TooManyOutputs, CbRoot}
 
@@ -67,3 +68,72 @@ rule_number TooManyChanges = 81
 rule_number TooManyMasternodes = 82
 rule_number TooManyOutputs = 83
 rule_number (CbRoot committed computed) = 84
+
+unfoldable pub rule_name : Rule → List ℕ
+rule_name ZeroHash = codes "ZeroHash"
+rule_name (HashKnown height) = codes "HashKnown"
+rule_name (NotNext tip) = codes "NotNext"
+rule_name HeightLimit = codes "HeightLimit"
+rule_name NoCoinbase = codes "NoCoinbase"
+rule_name SecondCoinbase = codes "SecondCoinbase"
+rule_name DuplicateTx = codes "DuplicateTx"
+rule_name (BadMerkle computed) = codes "BadMerkle"
+rule_name (VerdictForm position) = codes "VerdictForm"
+rule_name CbPayload = codes "CbPayload"
+rule_name (CbVersion found) = codes "CbVersion"
+rule_name (CbHeight found) = codes "CbHeight"
+rule_name (UnknownType found) = codes "UnknownType"
+rule_name (PayloadVersion found) = codes "PayloadVersion"
+rule_name (PayloadForm place) = codes "PayloadForm"
+rule_name InputsHash = codes "InputsHash"
+rule_name RegType = codes "RegType"
+rule_name RegMode = codes "RegMode"
+rule_name NullKey = codes "NullKey"
+rule_name PayoutForm = codes "PayoutForm"
+rule_name PayoutKey = codes "PayoutKey"
+rule_name RewardRange = codes "RewardRange"
+rule_name AddressForm = codes "AddressForm"
+rule_name SigPresence = codes "SigPresence"
+rule_name CollateralIndex = codes "CollateralIndex"
+rule_name CollateralValue = codes "CollateralValue"
+rule_name CollateralScript = codes "CollateralScript"
+rule_name CollateralUnknown = codes "CollateralUnknown"
+rule_name CollateralKeyless = codes "CollateralKeyless"
+rule_name CollateralKey = codes "CollateralKey"
+rule_name (DupOwner row) = codes "DupOwner"
+rule_name (DupOperator row) = codes "DupOperator"
+rule_name (DupAddress row) = codes "DupAddress"
+rule_name NoRow = codes "NoRow"
+rule_name UpAddress = codes "UpAddress"
+rule_name (UpDupAddress row) = codes "UpDupAddress"
+rule_name OperatorPayoutForm = codes "OperatorPayoutForm"
+rule_name OperatorPayoutUnasked = codes "OperatorPayoutUnasked"
+rule_name NoOperator = codes "NoOperator"
+rule_name UpMode = codes "UpMode"
+rule_name UpNullKey = codes "UpNullKey"
+rule_name UpPayoutForm = codes "UpPayoutForm"
+rule_name UpPayoutKey = codes "UpPayoutKey"
+rule_name (UpDupOperator row) = codes "UpDupOperator"
+rule_name UpCollateralKey = codes "UpCollateralKey"
+rule_name RevokeReason = codes "RevokeReason"
+rule_name (QuorumVersion found) = codes "QuorumVersion"
+rule_name (QuorumType found) = codes "QuorumType"
+rule_name (QuorumHeight found) = codes "QuorumHeight"
+rule_name QuorumWindow = codes "QuorumWindow"
+rule_name (QuorumBase base) = codes "QuorumBase"
+rule_name QuorumSecond = codes "QuorumSecond"
+rule_name QuorumDone = codes "QuorumDone"
+rule_name QuorumBits = codes "QuorumBits"
+rule_name QuorumFew = codes "QuorumFew"
+rule_name VerdictMissing = codes "VerdictMissing"
+rule_name (VerdictOther wanted) = codes "VerdictOther"
+rule_name VerdictNo = codes "VerdictNo"
+rule_name (QuorumMissing kind) = codes "QuorumMissing"
+rule_name TooManyChanges = codes "TooManyChanges"
+rule_name TooManyMasternodes = codes "TooManyMasternodes"
+rule_name TooManyOutputs = codes "TooManyOutputs"
+rule_name (CbRoot committed computed) = codes "CbRoot"
+
+-- what is printed of a rule: its name, and its number in brackets
+abbrev pub rule_text : Rule → List ℕ
+rule_text rule = rule_name rule ++ (codes " (" ++ (decimal (rule_number rule) ++ codes ")"))

@@ -1,6 +1,7 @@
 //! The rules of a block.
 
 use dmn_bytes::Hash256;
+use std::fmt;
 
 /// The rules of a block, each with what its refusal tells. A comment gives the rule's number and where it is broken.
 #[derive(Clone, Copy, Debug, PartialEq, Eq)]
@@ -180,7 +181,7 @@ pub enum Rule {
 
 impl Rule {
     ghost use Rattle.std.specs.Prelude.{◌≡◌};
-    ghost use Rattle.dmn_rows.specs.Rule.{rule_number};
+    ghost use Rattle.dmn_rows.specs.Rule.{rule_name, rule_number};
 
     /// The rule's number.
     #[tactic(auto, unfolding(crate::specs::Rule::rule_number))]
@@ -252,5 +253,90 @@ impl Rule {
             Rule::TooManyOutputs => 83,
             Rule::CbRoot { .. } => 84,
         }
+    }
+
+    /// The rule's name, as it stands in the code.
+    #[tactic(auto, unfolding(crate::specs::Rule::rule_name))]
+    pub fn name(&self) -> &'static str
+        ensures { result.now ≡ rule_name self.now }
+    {
+        match self {
+            Rule::ZeroHash => "ZeroHash",
+            Rule::HashKnown { .. } => "HashKnown",
+            Rule::NotNext { .. } => "NotNext",
+            Rule::HeightLimit => "HeightLimit",
+            Rule::NoCoinbase => "NoCoinbase",
+            Rule::SecondCoinbase => "SecondCoinbase",
+            Rule::DuplicateTx => "DuplicateTx",
+            Rule::BadMerkle { .. } => "BadMerkle",
+            Rule::VerdictForm { .. } => "VerdictForm",
+            Rule::CbPayload => "CbPayload",
+            Rule::CbVersion { .. } => "CbVersion",
+            Rule::CbHeight { .. } => "CbHeight",
+            Rule::UnknownType { .. } => "UnknownType",
+            Rule::PayloadVersion { .. } => "PayloadVersion",
+            Rule::PayloadForm { .. } => "PayloadForm",
+            Rule::InputsHash => "InputsHash",
+            Rule::RegType => "RegType",
+            Rule::RegMode => "RegMode",
+            Rule::NullKey => "NullKey",
+            Rule::PayoutForm => "PayoutForm",
+            Rule::PayoutKey => "PayoutKey",
+            Rule::RewardRange => "RewardRange",
+            Rule::AddressForm => "AddressForm",
+            Rule::SigPresence => "SigPresence",
+            Rule::CollateralIndex => "CollateralIndex",
+            Rule::CollateralValue => "CollateralValue",
+            Rule::CollateralScript => "CollateralScript",
+            Rule::CollateralUnknown => "CollateralUnknown",
+            Rule::CollateralKeyless => "CollateralKeyless",
+            Rule::CollateralKey => "CollateralKey",
+            Rule::DupOwner { .. } => "DupOwner",
+            Rule::DupOperator { .. } => "DupOperator",
+            Rule::DupAddress { .. } => "DupAddress",
+            Rule::NoRow => "NoRow",
+            Rule::UpAddress => "UpAddress",
+            Rule::UpDupAddress { .. } => "UpDupAddress",
+            Rule::OperatorPayoutForm => "OperatorPayoutForm",
+            Rule::OperatorPayoutUnasked => "OperatorPayoutUnasked",
+            Rule::NoOperator => "NoOperator",
+            Rule::UpMode => "UpMode",
+            Rule::UpNullKey => "UpNullKey",
+            Rule::UpPayoutForm => "UpPayoutForm",
+            Rule::UpPayoutKey => "UpPayoutKey",
+            Rule::UpDupOperator { .. } => "UpDupOperator",
+            Rule::UpCollateralKey => "UpCollateralKey",
+            Rule::RevokeReason => "RevokeReason",
+            Rule::QuorumVersion { .. } => "QuorumVersion",
+            Rule::QuorumType { .. } => "QuorumType",
+            Rule::QuorumHeight { .. } => "QuorumHeight",
+            Rule::QuorumWindow => "QuorumWindow",
+            Rule::QuorumBase { .. } => "QuorumBase",
+            Rule::QuorumSecond => "QuorumSecond",
+            Rule::QuorumDone => "QuorumDone",
+            Rule::QuorumBits => "QuorumBits",
+            Rule::QuorumFew => "QuorumFew",
+            Rule::VerdictMissing => "VerdictMissing",
+            Rule::VerdictOther { .. } => "VerdictOther",
+            Rule::VerdictNo => "VerdictNo",
+            Rule::QuorumMissing { .. } => "QuorumMissing",
+            Rule::TooManyChanges => "TooManyChanges",
+            Rule::TooManyMasternodes => "TooManyMasternodes",
+            Rule::TooManyOutputs => "TooManyOutputs",
+            Rule::CbRoot { .. } => "CbRoot",
+        }
+    }
+}
+
+impl fmt::Display for Rule {
+    ghost use Rattle.std.specs.Prelude.{Some};
+    ghost use Rattle.dmn_rows.specs.Rule.{rule_text};
+
+    ghost output = { λ rule. Some (rule_text rule) };
+
+    fn fmt<W: fmt::Write>(&self, f: &mut fmt::Formatter<W>) -> fmt::Result {
+        let name = self.name();
+        let number = self.number();
+        write!(f, "{name} ({number})")
     }
 }

@@ -1,15 +1,16 @@
 //! The start record.
 
-ghost use Rattle.std.specs.Prelude.{◌≡◌, List, ℕ, IfOk, IfErr, MatchResult};
+ghost use Rattle.std.specs.Prelude.{◌≡◌, ◌++◌, List, ℕ, IfOk, IfErr, MatchResult, OnOk, OnErr};
 ghost use Rattle.dmn_bytes.specs.Reading.{Gives};
 ghost use Rattle.dmn_bytes.specs.Sending.{Appends};
-ghost use Rattle.dmn_rows.specs.Defs.{IsStartText, KeepsBounds};
+ghost use Rattle.dmn_rows.specs.Defs.{IsStart, IsStartText, KeepsBounds, start_text};
 ghost use Rattle.dmn_rows.specs.Fault.{StartDeparts};
+ghost use Rattle.dmn_rows.specs.Listing.{OutputsAscend};
 ghost use Rattle.dmn_rows.specs.Start.{behind_point, count_field, first_field, hash_field, outputs_field, point_of, profile_field, start_output, start_output_sound, start_record, start_record_sound, version_field};
 
 use dmn_bytes::{
-    Departure, Hash256, Items, Keyed, OutPoint, Pay, ReadError, Reader, Sink, Text, feed_count,
-    feed_many, is_zero, read_ascending, read_whole,
+    Bytes, Departure, Hash256, Items, Keyed, Memory, OutPoint, Pay, ReadError, Reader, Sink, Text,
+    feed_count, feed_many, is_zero, read_ascending, read_whole, write,
 };
 use std::alloc::Global;
 
@@ -205,13 +206,14 @@ impl Text for StartRecord {
 }
 
 /// The start record that the bytes are, all of them.
-#[tactic(auto, using(crate::proofs::Found::found_keeps))]
+#[tactic(auto, using(crate::proofs::Found::found_keeps, crate::proofs::Found::found_ascends))]
 pub fn read_start(alloc: Global, text: &[u8]) -> Result<StartRecord, StartFault>
     // What is read has this text.
     ensures found { IfOk result (IsStartText text.now) }
     // A start record's text is read as it, unless memory runs out.
     ensures only { (start : StartRecord) → IsStartText text.now start → MatchResult result (λ read. read ≡ start) (λ fault. fault ≡ StartFault.Memory) }
     ensures bounds { IfOk result KeepsBounds }
+    ensures ascending { IfOk result (λ start. OutputsAscend start.outputs) }
     // Else it says where the text departs.
     ensures departs { IfErr result (λ fault. StartDeparts fault text.now) }
 {
@@ -219,4 +221,13 @@ pub fn read_start(alloc: Global, text: &[u8]) -> Result<StartRecord, StartFault>
         Ok(start) => Ok(start),
         Err(error) => Err(StartFault::from(error)),
     }
+}
+
+/// Appends the text of a start record that keeps the format's bounds and order. A refusal changes nothing.
+pub fn write_start(start: &StartRecord, out: &mut Bytes) -> Result<(), Memory>
+    requires { IsStart start.now }
+    ensures ok { OnOk result (out.new ≡ out.old ++ start_text start.now) }
+    ensures err { OnErr result (out.new ≡ out.old) }
+{
+    write(start, out)
 }

@@ -1,7 +1,9 @@
-//! Start records in and out of their form, the profiles, verdicts, and the numbers of rules.
+//! Start records in and out of their form, the profiles, verdicts, rules as numbers and text, and lists of rows.
 
 use super::*;
-use dmn_bytes::{Bytes, Departure, Hash256, Memory, ReadError, read_whole, write};
+use dmn_bytes::{
+    Bytes, Departure, Hash256, Memory, OutPoint, Pay, ReadError, Service, read_whole, write,
+};
 use std::alloc::Global;
 use std::test::Fail;
 
@@ -45,8 +47,19 @@ fn a_record_with_outputs(rt: HostRuntime) -> Result<(), Fail> {
     assert_eq!(rt; (last.point.hash.0, last.point.index), ([6; 32], 0));
     assert_eq!(rt; (last.pay.kind, last.pay.hash), (2, [0xdd; 20]));
     let mut out = Bytes::new(alloc);
-    write(&start, &mut out)?;
+    write_start(&start, &mut out)?;
     assert_eq!(rt; out.as_slice(), text.as_slice());
+    let list = RowList::from_outputs(alloc, start.outputs);
+    assert_eq!(rt; (list.rows().len(), list.outputs().len()), (0, 3));
+    let point = OutPoint {
+        hash: Hash256([5; 32]),
+        index: 2,
+    };
+    let pay = Pay {
+        kind: 1,
+        hash: [0xee; 20],
+    };
+    assert_eq!(rt; list.output(&point), Some(pay));
     // Cut anywhere, it departs at the field that is cut.
     let fields = [
         0, 2, 3, 7, 39, 43, 75, 79, 80, 100, 132, 136, 137, 157, 189, 193, 194,
@@ -195,24 +208,163 @@ fn verdicts(rt: HostRuntime) -> Result<(), Fail> {
 }
 
 #[test]
-fn rule_numbers(rt: HostRuntime) -> Result<(), Fail> {
+fn rules_as_numbers_and_text(rt: HostRuntime) -> Result<(), Fail> {
     let hash = Hash256([7; 32]);
     let rules = [
-        (Rule::ZeroHash, 1),
-        (Rule::HashKnown { height: 9 }, 2),
-        (Rule::CbHeight { found: 9 }, 13),
-        (Rule::DupAddress { row: hash }, 46),
-        (Rule::RevokeReason, 62),
+        (Rule::ZeroHash, 1, "ZeroHash (1)"),
+        (Rule::HashKnown { height: 9 }, 2, "HashKnown (2)"),
+        (Rule::CbHeight { found: 9 }, 13, "CbHeight (13)"),
+        (Rule::DupOwner { row: hash }, 44, "DupOwner (44)"),
+        (Rule::DupAddress { row: hash }, 46, "DupAddress (46)"),
+        (Rule::RevokeReason, 62, "RevokeReason (62)"),
         (
             Rule::CbRoot {
                 committed: hash,
                 computed: hash,
             },
             84,
+            "CbRoot (84)",
         ),
     ];
-    for (rule, number) in rules {
+    for (rule, number, text) in rules {
         assert_eq!(rt; rule.number(), number);
+        assert_eq!(rt; format!(in rt.alloc(); "{rule}")?.as_str(), text);
     }
+    Ok(())
+}
+
+// A row of a hash of keys, with owner, operator, service and collateral of that key.
+fn row(key: u8, registered: u32) -> MnRow {
+    let pay = Pay {
+        kind: 1,
+        hash: [key; 20],
+    };
+    MnRow {
+        hash: Hash256([key; 32]),
+        confirmed: Hash256([0; 32]),
+        registered,
+        last_paid: 0,
+        revived: 0,
+        banned: 0,
+        penalty: 0,
+        penalty_at: registered,
+        reason: 0,
+        owner: [key; 20],
+        operator: [key; 48],
+        voting: [key; 20],
+        service: Service {
+            address: [key; 16],
+            port: u16::from(key),
+        },
+        payout: pay,
+        operator_payout: pay,
+        reward: 0,
+        collateral: point(key),
+        script: pay,
+    }
+}
+
+// Outpoints in the order of their keys, four of each hash.
+fn point(key: u8) -> OutPoint {
+    OutPoint {
+        hash: Hash256([key / 4; 32]),
+        index: u32::from(key % 4),
+    }
+}
+
+#[test]
+fn rows_by_their_keys(rt: HostRuntime) -> Result<(), Fail> {
+    let mut list = RowList::new(rt.alloc());
+    for key in [2, 0, 1] {
+        list.put(row(key, 9))?;
+    }
+    assert_eq!(rt; list.rows().len(), 3);
+    assert_eq!(rt; list.count(), 3);
+    let first = Some(Hash256([1; 32]));
+    assert_eq!(rt; list.by_owner(&[1; 20]), first);
+    assert_eq!(rt; list.by_operator(&[1; 48]), first);
+    assert_eq!(rt; list.by_service(&row(1, 9).service), first);
+    assert_eq!(rt; list.by_collateral(&point(1)), first);
+    assert_eq!(rt;
+        list.row(&Hash256([1; 32])).map(|row| row.registered),
+        Some(9)
+    );
+    // Zero is an owner's key, but nobody's operator key or service.
+    assert_eq!(rt; list.by_owner(&[0; 20]), Some(Hash256([0; 32])));
+    assert_eq!(rt; list.by_operator(&[0; 48]), None);
+    assert_eq!(rt; list.by_service(&row(0, 9).service), None);
+    assert_eq!(rt; list.by_collateral(&point(3)), None);
+    assert!(rt; list.row(&Hash256([3; 32])).is_none());
+    Ok(())
+}
+
+// Whether the list has, in order, the rows and outputs that stand at their keys.
+fn agrees(list: &RowList, rows: &[Option<u32>; 16], outputs: &[Option<u8>; 16]) -> bool {
+    let mut row_at = 0u8;
+    let mut output_at = 0u8;
+    for key in 0u8..16 {
+        let place = usize::from(key);
+        let row = list.row(&Hash256([key; 32])).map(|row| row.registered);
+        let output = list.output(&point(key)).map(|pay| pay.hash[0]);
+        if row != rows[place] || output != outputs[place] {
+            return false;
+        }
+        if row.is_some() {
+            let found = list
+                .rows()
+                .get(usize::from(row_at))
+                .map(|row| row.hash.0[0]);
+            if found != Some(key) {
+                return false;
+            }
+            row_at = row_at.saturating_add(1);
+        }
+        if output.is_some() {
+            let found = list.outputs().get(usize::from(output_at));
+            if found.map(|output| output.point) != Some(point(key)) {
+                return false;
+            }
+            output_at = output_at.saturating_add(1);
+        }
+    }
+    list.rows().len() == usize::from(row_at) && list.outputs().len() == usize::from(output_at)
+}
+
+#[test]
+fn many_changes_of_a_list(rt: HostRuntime) -> Result<(), Fail> {
+    let mut list = RowList::new(rt.alloc());
+    let mut rows = [None; 16];
+    let mut outputs = [None; 16];
+    let mut seed = 7u32;
+    for step in 0u32..400 {
+        seed = seed.wrapping_mul(1_664_525).wrapping_add(1_013_904_223);
+        let key = ((seed >> 16) % 16) as u8;
+        let mark = (step % 251) as u8;
+        let place = usize::from(key);
+        match (seed >> 24) % 5 {
+            0 | 1 => {
+                list.put(row(key, step))?;
+                rows[place] = Some(step);
+            }
+            2 => {
+                assert_eq!(rt; list.drop_row(&Hash256([key; 32])), rows[place].is_some());
+                rows[place] = None;
+            }
+            3 => {
+                list.put_output(point(key), row(mark, 0).payout)?;
+                outputs[place] = outputs[place].or(Some(mark));
+            }
+            _ => {
+                assert_eq!(rt; list.drop_output(&point(key)), outputs[place].is_some());
+                outputs[place] = None;
+            }
+        }
+        assert!(rt; agrees(&list, &rows, &outputs), "step {step}");
+    }
+    let mut copy = list.copy(rt.alloc())?;
+    assert!(rt; agrees(&copy, &rows, &outputs));
+    copy.put(row(77, 0))?;
+    copy.put_output(point(77), row(77, 0).payout)?;
+    assert!(rt; agrees(&list, &rows, &outputs) && !agrees(&copy, &rows, &outputs));
     Ok(())
 }

@@ -1,34 +1,24 @@
 -- The simplified list of masternodes (DIP-0004), as a list of entries. A reader begins here; the other parts are
 --   Entry  the entry of a row, and the format of an entry
---   Place  where a hash stands in a list
+--   Keys   that an entry goes by its hash
 --   Page   what a sink of one entry's size holds
-use Rattle.std.specs.Prelude.{◌≡◌, Bool, not, List, [], ◌∷◌, ◌++◌, map, filter}
-use Rattle.std.specs.List.{AllByRecursion}
+use Rattle.std.specs.Prelude.{Bool, not, List, map, filter}
 use Rattle.std.specs.Str.{bytes_eq}
-use Rattle.std.specs.Ordering.{is_lt}
-use Rattle.std.specs.declared.cmp.Ordering.TheVariants.{Less}
 use Rattle.dmn_bytes.specs.Hash.{dsha}
 use Rattle.dmn_bytes.specs.Points.{hash_cmp}
 use Rattle.dmn_bytes.specs.declared.hash.Hash256.{Hash256}
 use Rattle.dmn_merkle.specs.Defs.{merkle_root}
 use Rattle.dmn_rows.specs.declared.row.MnRow.{MnRow}
+use Rattle.dmn_rows.specs.Sorted.{Ascends, put_sorted}
 use Rattle.dmn_sml.specs.declared.entry.SmlEntry.{SmlEntry}
 use Rattle.dmn_sml.specs.Entry.{entry, entry_of}
-
-abbrev pub is_below : Hash256 → Hash256 → Bool
-is_below a b = is_lt (hash_cmp a b)
 
 abbrev pub has_hash : Hash256 → SmlEntry → Bool
 has_hash hash e = bytes_eq e.hash.0 hash.0
 
--- all these entries have a hash above this one
-abbrev pub IsAbove : Hash256 → List SmlEntry → Type 0
-IsAbove hash = AllByRecursion (λ e. hash_cmp hash e.hash ≡ Less)
-
 -- each hash is below all that follow it
 abbrev pub IsAscending : List SmlEntry → Type 0
-IsAscending [] = Unit {0}
-IsAscending (e ∷ rest) = IsAbove e.hash rest × IsAscending rest
+IsAscending = Ascends hash_cmp (λ e. e.hash)
 
 -- the simplified list of a list of rows
 abbrev pub simple : List MnRow → List SmlEntry
@@ -36,7 +26,7 @@ simple = map entry_of
 
 -- after a put: the entry stands behind those of lower hashes and before those of higher ones
 abbrev pub put_entry : SmlEntry → List SmlEntry → List SmlEntry
-put_entry entry list = filter (λ e. is_below e.hash entry.hash) list ++ entry ∷ filter (λ e. is_below entry.hash e.hash) list
+put_entry = put_sorted hash_cmp (λ e. e.hash)
 
 -- after a delete: the others
 abbrev pub delete_hash : Hash256 → List SmlEntry → List SmlEntry

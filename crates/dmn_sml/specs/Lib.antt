@@ -1,4 +1,4 @@
 pub mod Defs
 pub mod Entry
+pub mod Keys
 pub mod Page
-pub mod Place

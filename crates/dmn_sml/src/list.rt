@@ -1,14 +1,15 @@
 //! The simplified list, in the order of its hashes.
 
-ghost use Rattle.std.specs.Prelude.{◌≡◌, ◌<◌, ◌≤◌, [], Ok, OnOk, OnErr, IfOk, IsTrue, filter, not, length, is_ok, if◌then◌else◌};
+ghost use Rattle.std.specs.Prelude.{◌≡◌, [], Ok, OnOk, OnErr, IfOk};
 ghost use Rattle.std.specs.List.{list_any};
 ghost use Rattle.dmn_sml.specs.Defs.{IsAscending, has_hash, leaf, root_of, put_entry, delete_hash};
-ghost use Rattle.dmn_sml.specs.Place.{place_of, has_hash_at};
+ghost use Rattle.dmn_sml.specs.Keys.{entry_key};
 
 use crate::entry::SmlEntry;
 use dmn_bytes::{Hash256, Memory, digest};
 use dmn_merkle::RootBuilder;
-use std::alloc::{AllocError, Global};
+use dmn_rows::{ByKey, drop_sorted, put_sorted};
+use std::alloc::Global;
 use std::marker::Model;
 
 /// Entries in strictly ascending order of their hashes. Contracts see them as a list.
@@ -44,7 +45,7 @@ impl SmlList {
         ensures ok { OnOk result (self.new ≡ put_entry entry self.old) }
         ensures err { OnErr result (self.new ≡ self.old) }
     {
-        Ok(put_in(&mut self.entries, entry)?)
+        Ok(put_sorted(&mut self.entries, entry)?)
     }
 
     /// Takes the entry of a hash away, and tells whether it was there. This takes no memory.
@@ -52,7 +53,7 @@ impl SmlList {
         ensures was { result ≡ list_any (has_hash hash.now) self.old }
         ensures rest { self.new ≡ delete_hash hash.now self.old }
     {
-        delete_from(&mut self.entries, hash)
+        drop_sorted(&mut self.entries, hash)
     }
 
     /// The entries, in their order.
@@ -73,50 +74,20 @@ impl SmlList {
     }
 }
 
-// How many entries have a lower hash. The place is found by halving.
-fn place(entries: &[SmlEntry], hash: &Hash256) -> usize
-    requires { IsAscending entries.now }
-    ensures place { result ≡ place_of hash.now entries.now }
-    ensures within { result ≤ length entries.now }
-{
-    entries.partition_point(|entry| entry.hash.cmp(hash).is_lt())
-}
+impl ByKey<Hash256> for SmlEntry {
+    ghost key_of = { λ entry. entry.hash };
 
-// Whether the entry at a place has the hash.
-fn has_at(entries: &[SmlEntry], at: usize, hash: &Hash256) -> bool
-    ensures has { result ≡ has_hash_at hash.now entries.now at }
-    ensures within { IsTrue result → at < length entries.now }
-{
-    match entries.get(at) {
-        None => false,
-        Some(entry) => entry.hash == *hash,
-    }
-}
+    ghost has = { has_hash };
 
-fn put_in(entries: &mut Vec<SmlEntry>, entry: SmlEntry) -> Result<(), AllocError>
-    requires { IsAscending entries.old.items }
-    ensures { entries.new.items ≡ (if is_ok result then put_entry entry entries.old.items else entries.old.items) }
-{
-    let at = place(entries, &entry.hash);
-    if has_at(entries, at, &entry.hash) {
-        entries[at] = entry;
-        Ok(())
-    } else {
-        Ok(entries.insert(at, entry)?)
-    }
-}
+    ghost is_key = { entry_key };
 
-fn delete_from(entries: &mut Vec<SmlEntry>, hash: &Hash256) -> bool
-    requires { IsAscending entries.old.items }
-    ensures was { result ≡ list_any (has_hash hash.now) entries.old.items }
-    ensures rest { entries.new.items ≡ delete_hash hash.now entries.old.items }
-{
-    let at = place(entries, hash);
-    let was = has_at(entries, at, hash);
-    if was {
-        entries.remove(at);
+    fn key(&self) -> &Hash256 {
+        &self.hash
     }
-    was
+
+    fn has_key(&self, hash: &Hash256) -> bool {
+        self.hash == *hash
+    }
 }
 
 #[tactic(auto, unfolding(crate::specs::Defs::leaf))]

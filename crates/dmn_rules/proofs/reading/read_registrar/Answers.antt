@@ -1,0 +1,26 @@
+use Rattle.std.proofs.Common.{ap, arith}
+use Rattle.std.specs.Option.{option_map}
+use Rattle.std.specs.Result.{result_ok}
+use Rattle.dmn_bytes.specs.Format.{whole}
+use Rattle.dmn_payloads.specs.Fault.{other_version}
+use Rattle.dmn_payloads.specs.Payloads.{up_reg, up_reg_sound}
+use Rattle.dmn_rules.specs.declared.provider.Provider.{Provider}
+use Rattle.dmn_rules.specs.declared.provider.Provider.TheVariants.{Registrar}
+use Rattle.dmn_rules.specs.Payload.{payload_rules, departure_of, provider_of}
+use Rattle.dmn_rules.proofs.Forms.{read_ok, read_err, read_placed}
+use Rattle.dmn_rules.proofs.reading.read_registrar.Goals as goal
+
+pub broken_by-requires : goal.broken_by-requires
+broken_by-requires c = read_placed up_reg up_reg_sound c.args.payload.now (λ i. omega (arith, c.type_inv.payload i)) 10000 c.requires c.in-Err.fault c.in-Err.ensures.answers
+
+pub returns-in-Ok-clause-rule : goal.returns-in-Ok-clause-rule
+unfolding payload_rules departure_of
+returns-in-Ok-clause-rule c = (read_ok (other_version c.args.payload.now) (whole up_reg c.args.payload.now) c.in-Ok.up c.in-Ok.ensures.answers).0
+
+pub returns-in-Ok-clause-read : goal.returns-in-Ok-clause-read
+unfolding provider_of
+returns-in-Ok-clause-read c = ap (λ r. option_map (λ v. Registrar v) (result_ok r)) (read_ok (other_version c.args.payload.now) (whole up_reg c.args.payload.now) c.in-Ok.up c.in-Ok.ensures.answers).1
+
+pub returns-in-Err-clause-rule : goal.returns-in-Err-clause-rule
+unfolding payload_rules departure_of
+returns-in-Err-clause-rule c = rw c.broken_by.ensures (read_err Provider (other_version c.args.payload.now) (whole up_reg c.args.payload.now) c.in-Err.fault c.in-Err.ensures.answers)

@@ -1,0 +1,7 @@
+pub mod Defs
+pub mod Payload
+pub mod Provider
+pub mod Change
+pub mod Table
+pub mod Order
+pub mod Looking

@@ -3,6 +3,8 @@
 --   Frames  what a block keeps of a body
 --   Fault   what a fault of a block says of its text
 --   Shape   the rules on a block as a whole, by a table
+--   State   what a registry knows behind a block
+--   Spend   the rows and outputs after the inputs and outputs of transactions
 use Rattle.std.specs.Prelude.{◌≡◌, ℕ, ◌≤◌, List, length, map}
 use Rattle.std.specs.List.{All}
 use Rattle.dmn_tx.specs.Defs.{id_of}

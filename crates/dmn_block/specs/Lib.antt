@@ -3,3 +3,5 @@ pub mod Body
 pub mod Fault
 pub mod Frames
 pub mod Shape
+pub mod Spend
+pub mod State

@@ -7,8 +7,11 @@
 Each line of the file is one request, and an indented line goes on with the one above; '-' is standard input, and '#'
 begins a comment.
 
-    start PROFILE FIRST HASH  a start record without outputs: profile small or main, the height of the first block,
-                              the hash of the block before it
+    start PROFILE FIRST HASH [OUTPUT ..]
+                              a start record: profile small or main, the height of the first block, the hash of the
+                              block before it, and the unspent outputs of 1,000 DASH behind that, in the order of
+                              their outpoints. OUTPUT is HASH/INDEX/KIND/BYTES: the outpoint, the kind of its script
+                              (1 pays to a key, 2 to a script, 0 is another) and 20 bytes of the key's or script's hash
     connect BYTES             a block: its hash, its header of 80 bytes, the count of its transactions and each of them
                               (the coinbase, then registrations and others in any order), the count of the verdicts
                               on its signatures and each of them (none: 00)
@@ -34,7 +37,18 @@ RULES = {
     1: ("ZeroHash", ()), 2: ("HashKnown", (("height", 4),)), 3: ("NotNext", (("tip", 32),)), 4: ("HeightLimit", ()),
     6: ("NoCoinbase", ()), 7: ("SecondCoinbase", ()), 8: ("DuplicateTx", ()), 9: ("BadMerkle", (("computed", 32),)),
     10: ("VerdictForm", (("position", 4),)), 11: ("CbPayload", ()), 12: ("CbVersion", (("found", 2),)),
-    13: ("CbHeight", (("found", 4),)), 84: ("CbRoot", (("committed", 32), ("computed", 32))),
+    13: ("CbHeight", (("found", 4),)), 20: ("UnknownType", (("found", 2),)), 21: ("PayloadVersion", (("found", 2),)),
+    22: ("PayloadForm", (("place", 4),)), 23: ("InputsHash", ()), 30: ("RegType", ()), 31: ("RegMode", ()),
+    32: ("NullKey", ()), 33: ("PayoutForm", ()), 34: ("PayoutKey", ()), 35: ("RewardRange", ()),
+    36: ("AddressForm", ()), 37: ("SigPresence", ()), 38: ("CollateralIndex", ()), 39: ("CollateralValue", ()),
+    40: ("CollateralScript", ()), 41: ("CollateralUnknown", ()), 42: ("CollateralKeyless", ()),
+    43: ("CollateralKey", ()), 44: ("DupOwner", (("row", 32),)), 45: ("DupOperator", (("row", 32),)),
+    46: ("DupAddress", (("row", 32),)), 50: ("NoRow", ()), 51: ("UpAddress", ()), 52: ("UpDupAddress", (("row", 32),)),
+    53: ("OperatorPayoutForm", ()), 54: ("OperatorPayoutUnasked", ()), 55: ("NoOperator", ()), 56: ("UpMode", ()),
+    57: ("UpNullKey", ()), 58: ("UpPayoutForm", ()), 59: ("UpPayoutKey", ()), 60: ("UpDupOperator", (("row", 32),)),
+    61: ("UpCollateralKey", ()), 62: ("RevokeReason", ()), 73: ("VerdictMissing", ()),
+    74: ("VerdictOther", (("wanted", 32),)), 75: ("VerdictNo", ()), 82: ("TooManyMasternodes", ()),
+    83: ("TooManyOutputs", ()), 84: ("CbRoot", (("committed", 32), ("computed", 32))),
 }
 NO_TRANSACTION = 0xFFFFFFFF
 
@@ -64,14 +78,21 @@ def bytes_of(words):
     return b"".join(pieces)
 
 
-def start_body(profile, first, before):
-    return number(1, 2) + number(PROFILES[profile], 1) + number(first, 4) + hash_of(before) + number(0, 4)
+def output_of(word):
+    """An output of a start record: its outpoint, and what it pays to."""
+    point, index, kind, key = word.split("/")
+    return hash_of(point) + number(index, 4) + number(kind, 1) + bytes_of([key])
+
+
+def start_body(profile, first, before, *outputs):
+    head = number(1, 2) + number(PROFILES[profile], 1) + number(first, 4) + hash_of(before)
+    return head + number(len(outputs), 4) + b"".join(output_of(word) for word in outputs)
 
 
 def request_of(line):
     """The kind and the body of one line."""
     word, *rest = line.split()
-    if word == "start" and len(rest) == 3:
+    if word == "start" and len(rest) >= 3:
         return START, start_body(*rest)
     if word == "tip" and not rest:
         return TIP, b""

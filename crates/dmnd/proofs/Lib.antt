@@ -2,9 +2,6 @@ pub mod Asking
 pub mod Cutting
 pub mod Feeding
 pub mod Heading
-pub mod Payloads
-pub mod Replaying
-pub mod States
-pub mod Stepping
-pub mod Together
+pub mod Listing
+pub mod Standing
 pub mod Turning

@@ -1,23 +1,21 @@
 -- A frame that is taken and answered.
-use Rattle.std.proofs.Common.{◌≡◌, ℕ, false, inl, inr, Result, Ok, Err, List, [], append_assoc, ◌++◌, length, take, drop, refl, sym, ap, subst, ◌∙◌}
+use Rattle.std.proofs.Common.{◌≡◌, ℕ, inl, inr, Result, Ok, Err, List, [], append_assoc, ◌++◌, length, take, drop, refl, sym, ap, subst, ◌∙◌}
 use Rattle.std.proofs.lemmas.Bool.{le-ltb, lt-ltb}
 use Rattle.std.proofs.lemmas.List.{take-append-drop}
-use Rattle.std.specs.Prelude.{None, Some, IfOk}
+use Rattle.std.specs.Prelude.{None, IfOk}
 use Rattle.dmn_bytes.specs.declared.fault.Memory.{Memory}
 use Rattle.dmn_outside.specs.Line.{Talk}
 use Rattle.dmn_outside.specs.Pieces.{Ended, SentFront, Took}
 use Rattle.dmnd.specs.declared.answer.Answer.{Answer}
 use Rattle.dmnd.specs.declared.answer.Answer.TheVariants as answers
-use Rattle.dmnd.specs.declared.kind.Kind.{Kind}
 use Rattle.dmnd.specs.declared.kind.Kind.TheVariants as kinds
-use Rattle.dmnd.specs.Answers.{MayAnswer}
-use Rattle.dmnd.specs.Frames.{Frame, frame_at}
-use Rattle.dmnd.specs.Kinds.{kind_of, takes_no_memory}
+use Rattle.dmnd.specs.Frames.{frame_at}
 use Rattle.dmnd.specs.Outcome.{SentBefore}
 use Rattle.dmnd.specs.declared.machine.Machine.{Machine}
-use Rattle.dmnd.specs.Steps.{AnswersFront, Asked, Connects, Emptied, Faulted, Headed, IsByFront, Replied, RepliesTo, Turned}
+use Rattle.dmnd.specs.Steps.{Asked, Emptied, Faulted, GivesFront, Headed, Plans, Replied, RepliesTo, Turned, has_begun}
+use Rattle.dmnd.specs.declared.requests.Plan.TheVariants as plans
 use Rattle.dmnd.specs.Texts.{answer_text}
-use Rattle.dmnd.proofs.Asking.{body_may, front_may}
+use Rattle.dmnd.proofs.Standing.{front_may, lacks}
 
 -- the frame, and what is left behind it
 pub turned : (m n : Machine) (answer : Answer) (kind size : ℕ) (x h a : Talk) (left : List ℕ) → Headed kind size x h → Asked m kind size answer n h a → left ≡ a.left → Turned m answer n x.left left
@@ -64,32 +62,23 @@ cut_within kind size x h z head e = (head.some, head.frame ∙ rw (lt-ltb (lengt
 
 -- ---- a reply
 
--- want of memory changes nothing
-memory_may : (m : Machine) (which : Kind) (frame : Frame) → kind_of frame.kind ≡ Some which → takes_no_memory (Some which) ≡ false → MayAnswer m frame answers.Memory m
-memory_may m which frame is takes = inr (rw is takes, refl, refl)
-
-memory_replied : (m : Machine) (kind size : ℕ) (text : List ℕ) (x y : Talk) → IsByFront kinds.List m kind size → Took size x y → text ≡ answer_text answers.Memory → Replied m kind size text m x y
+memory_replied : (m : Machine) (kind size : ℕ) (text : List ℕ) (x y : Talk) → Plans plans.List (has_begun m) kind size → Took size x y → text ≡ answer_text answers.Memory → Replied m kind size text m x y
 memory_replied m kind size text x y by took is = record {
   answer = answers.Memory;
-  asked = record { took = took; may = memory_may m kinds.List (record { kind = kind; body = take size x.left }) by.0 refl };
+  asked = record { took = took; may = lacks m kinds.List (record { kind = kind; body = take size x.left }) by.kind_is refl };
   text_is = is;
 }
 
 -- the reply to List
-pub list_replied : (m : Machine) (kind size : ℕ) (text front : List ℕ) (x y : Talk) (r : Result Answer Memory) → IsByFront kinds.List m kind size → Took size x y → front ≡ take 64 (take size x.left)
-    → IfOk r (λ answer. AnswersFront kinds.List answer m front) → RepliesTo text r → Replied m kind size text m x y
+pub list_replied : (m : Machine) (kind size : ℕ) (text front : List ℕ) (x y : Talk) (r : Result Answer Memory) → Plans plans.List (has_begun m) kind size → Took size x y → front ≡ take 64 (take size x.left)
+    → IfOk r (λ answer. GivesFront kinds.List answer m front) → RepliesTo text r → Replied m kind size text m x y
 list_replied m kind size text front x y (Ok answer) by took same answers (inl is) = record {
   answer = answer;
-  asked = record { took = took; may = front_may m kinds.List answer kind size x.left front by.0 by.1 same answers };
+  asked = record { took = took; may = front_may m kinds.List answer kind size x.left front by.kind_is by.size_is same answers };
   text_is = is;
 }
 list_replied m kind size text front x y (Ok answer) by took same answers (inr is) = memory_replied m kind size text x y by took is
 list_replied m kind size text front x y (Err lack) by took same answers is = memory_replied m kind size text x y by took is
-
--- the answer to Connect
-pub connect_may : (m n : Machine) (answer : Answer) (kind size : ℕ) (left body : List ℕ) → IsByFront kinds.Connect m kind size → body ≡ take size left → Connects body answer m n → MayAnswer m (record { kind = kind; body = take size left }) answer n
-connect_may m n answer kind size left body by same (inl is) = body_may m n kinds.Connect answer kind size left body by.0 by.1 same is
-connect_may m n answer kind size left body by same (inr lack) = rw (lack.0, lack.1) (memory_may m kinds.Connect (record { kind = kind; body = take size left }) by.0 refl)
 
 -- the line broke while a reply was sent
 pub turned_part : (m n : Machine) (kind size : ℕ) (text : List ℕ) (x h a z : Talk) → Headed kind size x h → Replied m kind size text n h a → SentFront text a z → (answer : Answer) × Turned m answer n x.left z.left × SentBefore (answer_text answer) x z

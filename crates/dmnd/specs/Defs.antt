@@ -1,14 +1,11 @@
 -- What the program sends for what it is given. A reader begins here; the parts are:
 --   Frames      request frames, and how a text is cut into them
 --   Kinds       the kinds of requests, by their numbers
---   State       what a registry holds: a start record, the state after each block, and the heights that are held
---   Register    the rows after the registrations of a block
---   Step        one block more: the next state or the first rule that it breaks, and replay of blocks
---   Plain       the blocks that are built so far: ordinary transactions and simple registrations
---   Ask         the answer to each frame, and the machine after it
+--   Plain       the blocks that are built so far
+--   Ask         the answer to each frame by what replay holds, and the machine after it; the machine, its replay and the
+--               step of one block stand in dmn_branch
 --   Answers     what may be answered to frames, where want of memory is free
 --   Texts       the frame of each answer, of the bodies in Framed; RuleFields has what a refusal tells
---   Replay      the blocks that a run accepted, and what is held by replay of them
 --   Outcome     what a run has read and sent, by its status; Codes has the statuses' numbers, Words the command line
 --   Laws        each text is cut once, and statuses are exact
---   Steps       what the private parts of a turn do to a line
+--   Steps       what the program keeps, which machine it stands for, and what the private parts of a turn do to a line

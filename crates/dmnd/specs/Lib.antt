@@ -1,10 +1,6 @@
 pub mod Defs
 pub mod Frames
 pub mod Kinds
-pub mod State
-pub mod Register
-pub mod Replay
-pub mod Step
 pub mod Plain
 pub mod Ask
 pub mod Answers

@@ -1,14 +1,13 @@
 -- What the private parts of a turn do to a line that tells its bytes.
-use Rattle.std.specs.Prelude.{◌≡◌, ◌≢◌, ℕ, ◌<◌, ◌≤◌, ◌⊎◌, false, List, [], ◌++◌, length, take, drop, nat_lt, if◌then◌else◌, Option, None, Some, Result, Ok, Err, IsSome}
-use Rattle.dmn_block.specs.declared.fault.ShapeFault.{ShapeFault}
-use Rattle.dmn_block.specs.declared.fault.ShapeFault.TheVariants as faults
-use Rattle.dmn_block.specs.Shape.{Refusal}
+use Rattle.std.specs.Prelude.{◌≡◌, ◌≢◌, ℕ, ◌<◌, ◌≤◌, ◌⊎◌, Bool, true, false, List, [], ◌++◌, length, take, drop, nat_lt, if◌then◌else◌, Option, None, Some, is_some, Result, Ok, Err}
+use Rattle.dmn_block.specs.declared.frame.BlockFrame.{BlockFrame}
+use Rattle.dmn_branch.specs.Machine as machine
+use Rattle.dmn_branch.specs.Machine.{MachineState}
+use Rattle.dmn_branch.specs.Stands.{Keeping, StandsFor}
 use Rattle.dmn_bytes.specs.declared.fault.Memory.{Memory}
-use Rattle.dmn_bytes.specs.Format.{whole}
 use Rattle.dmn_outside.specs.declared.line.Failed.{Failed}
 use Rattle.dmn_outside.specs.Line.{Talk}
 use Rattle.dmn_outside.specs.Pieces.{Took, Ended}
-use Rattle.dmn_rows.specs.Start.{start_record}
 use Rattle.dmnd.specs.declared.answer.Answer.{Answer}
 use Rattle.dmnd.specs.declared.answer.Answer.TheVariants as answers
 use Rattle.dmnd.specs.declared.feed.Turn.{Turn}
@@ -17,14 +16,14 @@ use Rattle.dmnd.specs.declared.frame.Head.{Head}
 use Rattle.dmnd.specs.declared.frame.Head.TheVariants as heads
 use Rattle.dmnd.specs.declared.kind.Kind.{Kind}
 use Rattle.dmnd.specs.declared.kind.Kind.TheVariants as kinds
-use Rattle.dmnd.specs.declared.registry.State.{State}
+use Rattle.dmnd.specs.declared.registry.Registry.{Registry}
 use Rattle.dmnd.specs.declared.reply.Reply.{Reply}
-use Rattle.dmnd.specs.declared.machine.Plan.{Plan}
-use Rattle.dmnd.specs.declared.machine.Plan.TheVariants as plans
+use Rattle.dmnd.specs.declared.requests.Plan.{Plan}
+use Rattle.dmnd.specs.declared.requests.Plan.TheVariants as plans
 use Rattle.dmnd.specs.Answers.{MayAnswer}
 use Rattle.dmnd.specs.Frames.{Frame, frame_at}
 use Rattle.dmnd.specs.Kinds.{kind_of}
-use Rattle.dmnd.specs.Ask.{answer_of, asked, longest, started_by}
+use Rattle.dmnd.specs.Ask.{answer_of, asked, connected, longest}
 use Rattle.dmnd.specs.Outcome.{SentBefore}
 use Rattle.dmnd.specs.declared.machine.Machine.{Machine}
 use Rattle.dmnd.specs.Texts.{answer_text, grows, reply_text}
@@ -56,36 +55,77 @@ Fronts size (Ok (Some front)) old new = Took size old new × (front ≡ take 64 
 Fronts size (Ok None) old new = Ended size old new
 Fronts size (Err failed) old new = Faulted old new
 
--- the kinds whose body's front decides the answer
-abbrev pub IsByFront : Kind → Machine → ℕ → ℕ → Type 0
-IsByFront which m kind size = (kind_of kind ≡ Some which) × (size ≤ longest) × IsSome m.registry
+-- ---- the program's machine
+
+-- What the program keeps stands for a machine: the branch does, and the first height is its start record's.
+pub record Keeps (first : ℕ) (branch : Keeping) (m : MachineState) : Type 0 where
+  pub first_is : first ≡ m.start.first
+  pub branch_is : StandsFor branch m
+
+abbrev pub KeepsFor : Option Registry → Option MachineState → Type 0
+KeepsFor None None = Unit {0}
+KeepsFor (Some registry) (Some m) = Keeps registry.first registry.branch m
+KeepsFor None (Some m) = ⊥
+KeepsFor (Some registry) None = ⊥
+
+abbrev pub Stands : Machine → Option MachineState → Type 0
+Stands machine m = KeepsFor machine.registry m
+
+-- a start record was taken
+abbrev pub has_begun : Machine → Bool
+has_begun machine = is_some machine.registry
+
+-- ---- what is answered to a kind of request
+
+-- each body of this size is answered so, and that changes nothing
+abbrev pub Drops : Answer → Bool → ℕ → ℕ → Type 0
+Drops answer begun kind size =
+    (m : Option MachineState) → is_some m ≡ begun → (body : List ℕ) → length body ≡ size → answer_of m (record { kind = kind; body = body }) ≡ (answer, m)
+
+-- a frame that is not too long asks for this, of a machine that has begun, or has not
+pub record IsAsked (which : Kind) (wanted begun : Bool) (kind size : ℕ) : Type 0 where
+  pub kind_is : kind_of kind ≡ Some which
+  pub size_is : size ≤ longest
+  pub begun_is : begun ≡ wanted
 
 -- how a frame of this kind and size is answered: without its body, or as its kind asks
-abbrev pub Plans : Plan → Machine → ℕ → ℕ → Type 0
-Plans (plans.Drop answer) m kind size = (grows answer ≡ false) × ((body : List ℕ) → length body ≡ size → answer_of m (record { kind = kind; body = body }) ≡ (answer, m))
-Plans plans.Start m kind size = (kind_of kind ≡ Some kinds.Start) × (size ≤ longest)
-    × ((body : List ℕ) → length body ≡ size → answer_of m (record { kind = kind; body = body }) ≡ started_by (whole start_record body) m)
-Plans plans.Tip m kind size = IsByFront kinds.Tip m kind size
-Plans plans.List m kind size = IsByFront kinds.List m kind size
-Plans plans.Connect m kind size = IsByFront kinds.Connect m kind size
+abbrev pub Plans : Plan → Bool → ℕ → ℕ → Type 0
+Plans (plans.Drop answer) begun kind size = (grows answer ≡ false) × Drops answer begun kind size
+Plans plans.Start begun kind size = IsAsked kinds.Start false begun kind size
+Plans plans.Tip begun kind size = IsAsked kinds.Tip true begun kind size
+Plans plans.List begun kind size = IsAsked kinds.List true begun kind size
+Plans plans.Connect begun kind size = IsAsked kinds.Connect true begun kind size
 
 -- the answer to a request of this kind by the front of its body
-abbrev pub AnswersFront : Kind → Answer → Machine → List ℕ → Type 0
+abbrev pub AnswersFront : Kind → Answer → Option MachineState → List ℕ → Type 0
 AnswersFront which answer m front = (body : List ℕ) → take 64 body ≡ front → asked m (Some which) body ≡ (answer, m)
 
--- a start frame's answer, which may be Memory
-abbrev pub Starts : List ℕ → Answer → Machine → Machine → Type 0
-Starts body answer m n = (started_by (whole start_record body) m ≡ (answer, n)) ⊎ ((answer ≡ answers.Memory) × (n ≡ m))
+-- the machine that the first one stands for answers so, or with Memory; and the second one stands for what it is then
+abbrev pub GivesFront : Kind → Answer → Machine → List ℕ → Type 0
+GivesFront which answer machine front = (m : Option MachineState) → Stands machine m → AnswersFront which answer m front
 
--- a Connect's answer, which may be Memory
-abbrev pub Connects : List ℕ → Answer → Machine → Machine → Type 0
-Connects body answer m n = (asked m (Some kinds.Connect) body ≡ (answer, n)) ⊎ ((answer ≡ answers.Memory) × (n ≡ m))
+-- the answer, with the machine after it, unless it is Memory, which changes nothing
+abbrev pub Answers : Answer × Option MachineState → Option MachineState → Answer → Option MachineState → Type 0
+Answers defined m answer n = (defined ≡ (answer, n)) ⊎ ((answer ≡ answers.Memory) × (n ≡ m))
 
--- what is found of a block is what is defined, unless memory ran out
-abbrev pub Judges : Result State Refusal → Result State ShapeFault → Type 0
-Judges judged (Ok next) = judged ≡ Ok next
-Judges judged (Err (faults.Broken rule tx)) = judged ≡ Err (rule, tx)
-Judges judged (Err faults.Memory) = Unit {0}
+abbrev pub GivesBody : Kind → List ℕ → Answer → Machine → Machine → Type 0
+GivesBody which body answer old new = (m : Option MachineState) → Stands old m → (n : Option MachineState) × Stands new n × Answers (asked m (Some which) body) m answer n
+
+-- a start frame's body is taken, and this is kept then
+pub record Begins (body : List ℕ) (first : ℕ) (branch : Keeping) : Type 0 where
+  pub machine : MachineState
+  pub keeps : Keeps first branch machine
+  pub asked_is : asked None (Some kinds.Start) body ≡ (answers.Started, Some machine)
+
+-- the same of a branch and a plain block
+abbrev pub Connects : BlockFrame → Answer → Keeping → Keeping → Type 0
+Connects block answer old new = (m : MachineState) → StandsFor old m → (n : MachineState) × StandsFor new n × (n.start ≡ m.start) × Answers (connected m (machine.connect m block)) (Some m) answer (Some n)
+
+-- any frame
+abbrev pub MayServe : Machine → Frame → Answer → Machine → Type 0
+MayServe old frame answer new = (m : Option MachineState) → Stands old m → (n : Option MachineState) × Stands new n × MayAnswer m frame answer n
+
+-- ---- a turn
 
 -- a reply to an answer, or to want of memory: the answer's frame, or that of Memory where it grows
 abbrev pub RepliesTo : List ℕ → Result Answer Memory → Type 0
@@ -95,7 +135,7 @@ RepliesTo text (Err lack) = text ≡ answer_text answers.Memory
 -- the frame's body was taken, and the frame may be answered so
 pub record Asked (m : Machine) (kind size : ℕ) (answer : Answer) (n : Machine) (old new : Talk) : Type 0 where
   pub took : Took size old new
-  pub may : MayAnswer m (record { kind = kind; body = take size old.left }) answer n
+  pub may : MayServe m (record { kind = kind; body = take size old.left }) answer n
 
 -- the same, with the bytes that are to be sent
 pub record Replied (m : Machine) (kind size : ℕ) (text : List ℕ) (n : Machine) (old new : Talk) : Type 0 where
@@ -112,7 +152,7 @@ Asks (Err failed) m kind size n old new = Faulted old new
 pub record Turned (m : Machine) (answer : Answer) (n : Machine) (text left : List ℕ) : Type 0 where
   pub frame : Frame
   pub front : frame_at text ≡ Some (frame, left)
-  pub may : MayAnswer m frame answer n
+  pub may : MayServe m frame answer n
 
 abbrev pub Turns : Result Turn Failed → Machine → Machine → Talk → Talk → Type 0
 Turns (Ok turns.Answered) m n old new = (answer : Answer) × Turned m answer n old.left new.left × (new ≡ record old { left = new.left; sent = old.sent ++ answer_text answer })

@@ -3,13 +3,14 @@
 ghost use Rattle.std.specs.Prelude.{◌≡◌, ◌≢◌, true, false};
 ghost use Rattle.dmn_outside.specs.Counts.{HasCause, Rose};
 ghost use Rattle.dmnd.specs.Outcome.{Outcome};
-ghost use Rattle.dmnd.specs.Steps.{Asks, Plans, RepliesTo, Turns};
+ghost use Rattle.dmnd.specs.Steps.{Asks, Plans, RepliesTo, Turns, has_begun};
 ghost use Rattle.dmnd.specs.Texts.{answer_text, grows, reply_text};
 
 use crate::answer::{Answer, list_text, short_text};
 use crate::frame::{Head, read_front, read_head};
-use crate::machine::{Machine, Plan};
+use crate::machine::Machine;
 use crate::reply::Reply;
+use crate::requests::Plan;
 use crate::status::Status;
 use dmn_bytes::{Bytes, Memory};
 use dmn_outside::{Failed, Gathered, Line, gather, send_all, skip};
@@ -69,7 +70,7 @@ fn ask_dropped<L: Line>(
     size: u32,
     answer: Answer,
 ) -> Result<Option<Reply>, Failed>
-    requires { Plans (Plan.Drop answer) machine.old kind size }
+    requires { Plans (Plan.Drop answer) (has_begun machine.old) kind size }
     ensures asks { L.tells ≡ true → Asks result machine.old kind size machine.new (L.line line.old).talk (L.line line.new).talk }
     ensures cause { HasCause (L.line line.old).faults (L.line line.new).faults result }
 {
@@ -88,7 +89,7 @@ fn ask_tip<L: Line>(
     kind: u8,
     size: u32,
 ) -> Result<Option<Reply>, Failed>
-    requires { Plans Plan.Tip machine.old kind size }
+    requires { Plans Plan.Tip (has_begun machine.old) kind size }
     ensures asks { L.tells ≡ true → Asks result machine.old kind size machine.new (L.line line.old).talk (L.line line.new).talk }
     ensures cause { HasCause (L.line line.old).faults (L.line line.new).faults result }
 {
@@ -106,7 +107,7 @@ fn ask_list<L: Line>(
     kind: u8,
     size: u32,
 ) -> Result<Option<Reply>, Failed>
-    requires { Plans Plan.List machine.old kind size }
+    requires { Plans Plan.List (has_begun machine.old) kind size }
     ensures asks { L.tells ≡ true → Asks result machine.old kind size machine.new (L.line line.old).talk (L.line line.new).talk }
     ensures cause { HasCause (L.line line.old).faults (L.line line.new).faults result }
 {
@@ -127,7 +128,7 @@ fn ask_start<L: Line>(
     kind: u8,
     size: u32,
 ) -> Result<Option<Reply>, Failed>
-    requires { Plans Plan.Start machine.old kind size }
+    requires { Plans Plan.Start (has_begun machine.old) kind size }
     ensures asks { L.tells ≡ true → Asks result machine.old kind size machine.new (L.line line.old).talk (L.line line.new).talk }
     ensures cause { HasCause (L.line line.old).faults (L.line line.new).faults result }
 {
@@ -147,7 +148,7 @@ fn ask_connect<L: Line>(
     kind: u8,
     size: u32,
 ) -> Result<Option<Reply>, Failed>
-    requires { Plans Plan.Connect machine.old kind size }
+    requires { Plans Plan.Connect (has_begun machine.old) kind size }
     ensures asks { L.tells ≡ true → Asks result machine.old kind size machine.new (L.line line.old).talk (L.line line.new).talk }
     ensures cause { HasCause (L.line line.old).faults (L.line line.new).faults result }
 {

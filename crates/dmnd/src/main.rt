@@ -2,18 +2,16 @@
 #![tactic(auto)]
 
 mod answer;
-mod connect;
 mod feed;
 mod frame;
 mod kind;
 mod laws;
 mod machine;
 mod plain;
-mod register;
 mod registry;
 mod reply;
+mod requests;
 mod short;
-mod simple;
 mod status;
 #[cfg(test)]
 mod tests;

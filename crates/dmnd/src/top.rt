@@ -25,7 +25,8 @@ fn is_feed(words: &[String]) -> bool
 /// Does what the words ask for, over the station, and says how it ended.
 #[tactic(auto, using(crate::proofs::Cutting::statuses_are_exact))]
 pub fn dmn_main<T: Station>(alloc: Global, words: &[String], station: &mut T) -> Status
-    // Where the line tells its bytes: what was read and sent, by the status.
+    // Where the line tells its bytes: what was read and sent, by the status. Each answer is the one that replay of the
+    // commands accepted before it gives, or Memory.
     ensures outcome { T.tells ≡ true → Outcome result (T.line station.old).talk (T.line station.new).talk }
 
     // Words comes exactly where the words are in no form, before any call of a device.

@@ -1,5 +1,6 @@
-use Rattle.std.proofs.Common.{◌∙◌}
-use Rattle.dmnd.proofs.Turning.{connect_may}
+use Rattle.std.proofs.Common.{refl, ◌∙◌}
+use Rattle.dmnd.specs.declared.kind.Kind.TheVariants as kinds
+use Rattle.dmnd.proofs.Standing.{body_may}
 use Rattle.dmnd.proofs.feed.ask_connect.Goals as goal
 
 pub returns-in-Whole-clause-asks : goal.returns-in-Whole-clause-asks
@@ -8,6 +9,6 @@ returns-in-Whole-clause-asks g c = λ tells.
     let body = rw c.new-body.ensures at (c.as_slice.ensures ∙ whole.1) in
     record {
       answer = c.connect.result;
-      asked = record { took = whole.0; may = connect_may _ _ _ _ _ _ c.as_slice.result.now c.requires body c.connect.ensures.connects };
+      asked = record { took = whole.0; may = body_may _ _ kinds.Connect _ _ _ _ c.as_slice.result.now c.requires.kind_is c.requires.size_is refl body c.connect.ensures.answers };
       text_is = c.fixed.ensures;
     }

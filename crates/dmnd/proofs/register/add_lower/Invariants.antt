@@ -1,6 +1,0 @@
-use Rattle.std.proofs.Common.{◌≡◌, ◌++◌, filter, take}
-use Rattle.dmn_sml.specs.Defs.{is_below}
-use Rattle.dmnd.proofs.register.add_lower.Given as goal
-
-abbrev pub invariant-loop-row : goal.invariant-loop-row
-invariant-loop-row l = l.after.items ≡ l.initial.after.items ++ filter (λ r. is_below r.hash l.hash) (take l.row-index l.rows)

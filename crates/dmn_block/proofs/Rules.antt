@@ -1,5 +1,5 @@
 -- The table of rules by its parts, and the least place that passes a test.
-use Rattle.std.proofs.Common.{◌≡◌, ℕ, zero, suc, ◌+◌, ◌<◌, ◌≤◌, Bool, true, false, [], ◌∷◌, ◌++◌, Option, Some, None, refl, ap, ◌∙◌, arith, inl, inr}
+use Rattle.std.proofs.Common.{◌≡◌, ℕ, zero, suc, ◌+◌, ◌<◌, ◌≤◌, Bool, true, false, [], ◌∷◌, Option, Some, None, refl, ap, ◌∙◌, arith, inl, inr}
 use Rattle.std.specs.Prelude.{if◌then◌else◌}
 use Rattle.std.specs.Option.{option_or}
 use Rattle.std.proofs.lemmas.Bool.{cases_lt}
@@ -11,12 +11,7 @@ use Rattle.dmn_rows.specs.declared.verdict.Verdict.{Verdict}
 use Rattle.dmn_rows.specs.declared.rule.Rule.TheVariants.{NoCoinbase}
 use Rattle.dmn_tx.specs.declared.tx.Tx.{Tx}
 use Rattle.dmn_block.specs.declared.frame.BlockFrame.{BlockFrame}
-use Rattle.dmn_block.specs.Shape.{Numbered, unnumbered, first_broken, least, passes, is_coinbase, is_second_coinbase, is_in_form, bad_verdict, tx_rules, begins_with_coinbase}
-
--- the first broken rule of two lists is the first one's, or else the second one's
-pub first_broken_append : (xs ys : Numbered) → first_broken (unnumbered (xs ++ ys)) ≡ option_or (first_broken (unnumbered xs)) (first_broken (unnumbered ys))
-first_broken_append [] ys = refl
-first_broken_append (x ∷ xs) ys = elim x.1 as (λ o. first_broken (o ∷ unnumbered (xs ++ ys)) ≡ option_or (first_broken (o ∷ unnumbered xs)) (first_broken (unnumbered ys))) [ Some rule ↦ refl | None ↦ first_broken_append xs ys ]
+use Rattle.dmn_block.specs.Shape.{unnumbered, first_broken, least, passes, is_coinbase, is_second_coinbase, is_in_form, bad_verdict, tx_rules, begins_with_coinbase}
 
 or_none : (a b : Option ℕ) → option_or a b ≡ None → a ≡ None
 or_none None b e = refl

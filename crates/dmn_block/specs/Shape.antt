@@ -1,6 +1,6 @@
 -- The rules on a block as a whole, in the order of their numbers: a table of which is broken, with its fields and the
 -- transaction that it names. Rule 2 asks what the machine holds, and stands there; 5 isn't used.
-use Rattle.std.specs.Prelude.{◌≡◌, ℕ, zero, suc, ◌+◌, false, ◌==◌, ◌&&◌, ◌||◌, Bool, not, nat_lt, nat_le, List, [], ◌∷◌, ◌++◌, length, take, map, Option, Some, None, Result, Ok, Err, slice_get, if◌then◌else◌}
+use Rattle.std.specs.Prelude.{◌≡◌, ℕ, zero, suc, ◌+◌, false, ◌==◌, ◌&&◌, ◌||◌, Bool, not, nat_lt, nat_le, List, [], ◌∷◌, ◌++◌, length, take, Option, Some, None, Result, Ok, Err, slice_get, if◌then◌else◌}
 use Rattle.std.specs.Option.{option_map, option_or}
 use Rattle.std.specs.Result.{is_ok}
 use Rattle.std.specs.List.{list_any}
@@ -18,6 +18,8 @@ use Rattle.dmn_payloads.specs.declared.payloads.CbTx.{CbTx}
 use Rattle.dmn_rows.specs.Start.{height_max}
 use Rattle.dmn_rows.specs.declared.verdict.Verdict.{Verdict}
 use Rattle.dmn_rows.specs.declared.rule.Rule.{Rule}
+use Rattle.dmn_rows.specs.Table.{Table}
+pub use Rattle.dmn_rows.specs.Table.{unnumbered, first_broken}
 use Rattle.dmn_rows.specs.declared.rule.Rule.TheVariants.{ZeroHash, NotNext, HeightLimit, NoCoinbase, SecondCoinbase, DuplicateTx, BadMerkle, VerdictForm, CbPayload, CbVersion, CbHeight}
 use Rattle.dmn_block.specs.declared.frame.BlockFrame.{BlockFrame}
 use Rattle.dmn_block.specs.declared.fault.ShapeFault.{ShapeFault}
@@ -29,15 +31,7 @@ Refusal = Rule × Option ℕ
 
 -- rules with their numbers; each is broken with a refusal, or isn't
 abbrev pub Numbered : Type 0
-Numbered = List (ℕ × Option Refusal)
-
-abbrev pub unnumbered : Numbered → List (Option Refusal)
-unnumbered = map (λ e. e.1)
-
-abbrev pub first_broken : List (Option Refusal) → Option Refusal
-first_broken [] = None
-first_broken (Some refusal ∷ rest) = Some refusal
-first_broken (None ∷ rest) = first_broken rest
+Numbered = Table Refusal
 
 -- a rule that names no transaction, and one that names the first
 abbrev pub of_block : Bool → Rule → Option Refusal

@@ -20,7 +20,7 @@ type Refusal = (Rule, Option<u32>);
 
 /// Judges a block that is to follow this tip by rules 1, 3, 4 and 6 to 13, in the order of their numbers, and gives
 /// the coinbase's payload. Equal ids are found by an ordered set, and not by comparing all pairs.
-#[tactic(auto, using(crate::proofs::Rules::first_broken_append))]
+#[tactic(auto, using(dmn_rows::proofs::Table::first_broken_append))]
 pub fn check_shape(
     alloc: Global,
     block: &BlockFrame,

@@ -17,7 +17,7 @@ use Rattle.dmn_block.specs.declared.fault.ShapeFault.{ShapeFault}
 use Rattle.dmn_block.specs.declared.fault.ShapeFault.TheVariants as shapes
 use Rattle.dmn_block.specs.Spend.{spend}
 use Rattle.dmn_block.specs.State.{State}
-use Rattle.dmn_block.proofs.Rules.{first_broken_append}
+use Rattle.dmn_rows.proofs.Table.{first_broken_append}
 use Rattle.dmn_payloads.specs.Payloads.{cb, cb_sound}
 use Rattle.dmn_payloads.specs.declared.payloads.CbTx.{CbTx}
 use Rattle.dmn_rows.specs.declared.profile.Profile.{Profile}

@@ -3,3 +3,4 @@ pub mod Sorted
 pub mod Keys
 pub mod Lookups
 pub mod Distinct
+pub mod Table

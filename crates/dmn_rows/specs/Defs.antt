@@ -9,6 +9,7 @@
 --   Fault    what a fault of a start record says of its text
 --   Verdict  a verdict's format, field by field
 --   Rule     the rules' numbers and names
+--   Table    tables of rules, and the first broken one
 use Rattle.std.specs.Prelude.{◌≡◌, ℕ, ◌≤◌, List, length}
 use Rattle.dmn_rows.specs.declared.start.StartRecord.{StartRecord}
 use Rattle.dmn_rows.specs.Start.{start_record, height_max, most_outputs}

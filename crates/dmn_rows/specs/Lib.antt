@@ -7,6 +7,7 @@ pub mod Keys
 pub mod Listing
 pub mod Distinct
 pub mod Rule
+pub mod Table
 pub mod Start
 pub mod Fault
 pub mod Verdict

@@ -1,22 +1,16 @@
 -- Tables of rules: a numbered line each, with what its refusal tells where it is broken.
-use Rattle.std.specs.Prelude.{ℕ, Bool, List, [], ◌∷◌, map, Option, Some, None, if◌then◌else◌}
+use Rattle.std.specs.Prelude.{Bool, List, Option, Some, None, if◌then◌else◌}
 use Rattle.std.specs.Option.{option_map}
 use Rattle.dmn_bytes.specs.declared.hash.Hash256.{Hash256}
 use Rattle.dmn_rows.specs.declared.row.MnRow.{MnRow}
 use Rattle.dmn_rows.specs.declared.rule.Rule.{Rule}
+use Rattle.dmn_rows.specs.Table.{Table}
+pub use Rattle.dmn_rows.specs.Table.{unnumbered, first_broken}
 use Rattle.dmn_rows.specs.Rows.{hash_where}
 
 -- rules with their numbers; each is broken, with its fields, or isn't
 abbrev pub Numbered : Type 0
-Numbered = List (ℕ × Option Rule)
-
-abbrev pub unnumbered : Numbered → List (Option Rule)
-unnumbered = map (λ e. e.1)
-
-abbrev pub first_broken : List (Option Rule) → Option Rule
-first_broken [] = None
-first_broken (Some rule ∷ rest) = Some rule
-first_broken (None ∷ rest) = first_broken rest
+Numbered = Table Rule
 
 -- the first broken rule of a table
 abbrev pub first_of : Numbered → Option Rule

@@ -12,6 +12,7 @@ use dmn_payloads::{
 use dmn_rows::{MnRow, Profile, RowList, Rule, Verdict, profile_of};
 use dmn_tx::{Tx, TxIn, TxOut, inputs_hash, txid};
 use std::alloc::Global;
+use std::process::Abort;
 use std::test::*;
 
 // A script that pays to a key (1) or a script (2) of this byte 20 times, or another script (0).
@@ -212,17 +213,35 @@ fn point(byte: u8, index: u32) -> OutPoint {
     }
 }
 
-// A registration whose collateral is its own output, where masternodes 1 and 2 are registered. Of two broken rules the
-// lower number answers.
+// What registrations with these changes are answered: a rule, or that they are taken and replace no row.
+fn expect_registered(
+    rt: &impl Abort,
+    alloc: Global,
+    profile: &Profile,
+    list: &RowList,
+    cases: &[(&[Change], Option<Rule>)],
+) -> Result<(), Fail>
+    requires { HasDistinctKeys list.now.rows }
+{
+    for (changes, wanted) in cases {
+        let answer = registered(alloc, profile, list, changes, None)?;
+        assert_eq!(rt;
+            answer,
+            wanted.map_or(Ok(None), |rule| Err(rule)),
+            "{changes:?}"
+        );
+    }
+    Ok(())
+}
+
+// What a registration says of itself. Of two broken rules the lower number answers.
 #[test]
-fn own_collateral(rt: HostRuntime) -> Result<(), Fail> {
+fn registrations_in_their_form(rt: HostRuntime) -> Result<(), Fail> {
     let Some(profile) = profile_of(1) else {
         panic!(rt; "no profile");
     };
-    let mut list = RowList::new(rt.alloc());
-    let first = register(rt.alloc(), &profile, &mut list, 1, 0)?;
-    let second = register(rt.alloc(), &profile, &mut list, 2, 0)?;
-    let cases: [(&[Change], Option<Rule>); 36] = [
+    let list = RowList::new(rt.alloc());
+    let cases: [(&[Change], Option<Rule>); 20] = [
         (&[], None),
         (&[Change::Inputs, Change::Kind], Some(Rule::InputsHash)),
         (&[Change::Kind, Change::Mode], Some(Rule::RegType)),
@@ -279,6 +298,20 @@ fn own_collateral(rt: HostRuntime) -> Result<(), Fail> {
             &[Change::Signature, Change::Index(1)],
             Some(Rule::SigPresence),
         ),
+    ];
+    expect_registered(&rt, rt.alloc(), &profile, &list, &cases)
+}
+
+// Own collaterals, and keys of others, where masternodes 1 and 2 are registered.
+#[test]
+fn own_collateral(rt: HostRuntime) -> Result<(), Fail> {
+    let Some(profile) = profile_of(1) else {
+        panic!(rt; "no profile");
+    };
+    let mut list = RowList::new(rt.alloc());
+    let first = register(rt.alloc(), &profile, &mut list, 1, 0)?;
+    let second = register(rt.alloc(), &profile, &mut list, 2, 0)?;
+    let cases: [(&[Change], Option<Rule>); 16] = [
         (
             &[Change::Index(1), Change::Owner(1)],
             Some(Rule::CollateralIndex),
@@ -329,15 +362,7 @@ fn own_collateral(rt: HostRuntime) -> Result<(), Fail> {
             Some(Rule::CollateralUnknown),
         ),
     ];
-    for (changes, wanted) in cases {
-        let answer = registered(rt.alloc(), &profile, &list, changes, None)?;
-        assert_eq!(rt;
-            answer,
-            wanted.map_or(Ok(None), |rule| Err(rule)),
-            "{changes:?}"
-        );
-    }
-    Ok(())
+    expect_registered(&rt, rt.alloc(), &profile, &list, &cases)
 }
 
 fn verdict(kind: u8, key: Hash256, valid: u8) -> Verdict {

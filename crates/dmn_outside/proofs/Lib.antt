@@ -1,3 +1,4 @@
 mod Taking
 mod Sending
 mod Parts
+pub mod Passing

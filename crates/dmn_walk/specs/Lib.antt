@@ -1,0 +1,5 @@
+pub mod Copy
+pub mod Cursor
+pub mod Defs
+pub mod Delta
+pub mod Page

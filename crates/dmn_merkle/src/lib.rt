@@ -8,6 +8,3 @@ mod roots;
 pub use builder::RootBuilder;
 pub use law::root_by_levels;
 pub use roots::root;
-
-#[cfg(test)]
-mod tests;

@@ -5,6 +5,7 @@ use Rattle.dmn_bytes.specs.Format.{Format, via, ◌⊗◌, ◌▹◌, number, bl
 use Rattle.dmn_bytes.specs.Points.{out_point, out_point_sound}
 use Rattle.dmn_bytes.specs.Law.{IsSound}
 use Rattle.dmn_bytes.specs.Sound.{via_sound, both_sound, then_sound, choose_sound, only_sound, number16_sound, number32_sound, number64_sound, blob_sound, blob_within_sound, counted_sound}
+use Rattle.dmn_tx.specs.declared.kinds.TheConstants.{SPECIAL_VERSION, LONGEST_PAYLOAD}
 use Rattle.dmn_tx.specs.declared.tx.TxIn.{TxIn}
 use Rattle.dmn_tx.specs.declared.tx.TxOut.{TxOut}
 use Rattle.dmn_tx.specs.declared.tx.Tx.{Tx}
@@ -21,13 +22,13 @@ tx_out = via
     (λ v. (v.value, v.script))
     (number w64 ⊗ blob)
 
--- a special transaction: version 3, and a type that isn't 0
+-- a special transaction: of its version, and of a type that isn't 0
 abbrev pub is_special : ℕ → ℕ → Bool
-is_special version kind = (version == 3) && not (kind == 0)
+is_special version kind = (version == SPECIAL_VERSION) && not (kind == 0)
 
--- a special transaction has a payload of at most 10,000 bytes, and another has none
+-- a special transaction has a payload of at most so many bytes, and another has none
 unfoldable pub payload_of : ℕ → ℕ → Format (List ℕ)
-payload_of version kind = choose (is_special version kind) (blob_within 10000) (only [])
+payload_of version kind = choose (is_special version kind) (blob_within LONGEST_PAYLOAD) (only [])
 
 unfoldable pub tx : Format Tx
 tx = via
@@ -37,7 +38,7 @@ tx = via
 
 -- the payload that a transaction may have, as a condition on writing it
 abbrev pub KeepsPayload : Tx → Type 0
-KeepsPayload v = MatchBool (is_special v.version v.kind) (length v.payload ≤ 10000) (v.payload ≡ [])
+KeepsPayload v = MatchBool (is_special v.version v.kind) (length v.payload ≤ LONGEST_PAYLOAD) (v.payload ≡ [])
 
 -- ---- each reads as its texts
 
@@ -51,7 +52,7 @@ tx_out_sound = via_sound _ _ _ (λ v. refl) (λ a fits. refl) (both_sound _ _ nu
 
 payload_sound : (version kind : ℕ) → IsSound (payload_of version kind)
 unfolding payload_of
-payload_sound version kind = choose_sound (is_special version kind) _ _ (blob_within_sound 10000) (only_sound [])
+payload_sound version kind = choose_sound (is_special version kind) _ _ (blob_within_sound LONGEST_PAYLOAD) (only_sound [])
 
 pub tx_sound : IsSound tx
 unfolding tx

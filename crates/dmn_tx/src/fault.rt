@@ -1,15 +1,19 @@
 //! Why a transaction could not be read.
 
 use dmn_bytes::{Departure, ReadError};
+use thiserror::Error;
 
 /// Why a transaction could not be read. Places count from the text's first byte.
-#[derive(Clone, Copy, Debug, PartialEq, Eq)]
+#[derive(Clone, Copy, Debug, PartialEq, Eq, Error)]
 pub enum TxFault {
     /// The first byte of the first field that departs.
+    #[error("the transaction departs from its form at byte {at}")]
     TxForm { at: usize },
     /// A payload's length is above 10,000. The place is the first byte of that length.
+    #[error("the payload whose length stands at byte {at} is too long")]
     PayloadTooLong { at: usize },
     /// Memory ran out.
+    #[error("memory ran out")]
     Memory,
 }
 

@@ -1,7 +1,8 @@
 //! Reading, writing and hashing a transaction.
 
-ghost use Rattle.std.specs.Prelude.{◌≡◌, ◌≤◌, ◌+◌, ℕ, List, [], ◌++◌, length, drop, OnOk, OnErr, IfOk, IfErr, MatchResult};
+ghost use Rattle.std.specs.Prelude.{◌≡◌, ◌≤◌, ◌+◌, ℕ, List, [], ◌++◌, length, drop, Ok, Err, OnOk, OnErr, IfOk, IfErr, MatchResult};
 ghost use Rattle.dmn_bytes.specs.Law.{Stands};
+ghost use Rattle.dmn_bytes.specs.Reading.{Gives};
 ghost use Rattle.dmn_tx.specs.Defs.{tx_text, id_of, inputs_hash_of};
 ghost use Rattle.dmn_tx.specs.Tx.{tx, KeepsPayload};
 ghost use Rattle.dmn_tx.specs.Fault.{TxDeparts};
@@ -9,7 +10,9 @@ ghost use Rattle.dmn_tx.specs.declared.tx.Tx.{Tx};
 
 use crate::fault::TxFault;
 use crate::tx::Tx;
-use dmn_bytes::{Bytes, Hash256, Memory, Text, digest, dsha_of, read_at, write};
+use dmn_bytes::{
+    Bytes, Hash256, Memory, ReadError, Reader, Text, digest, dsha, dsha_of, read_at, write,
+};
 use sha2::{Digest, Sha256};
 use std::alloc::Global;
 
@@ -48,6 +51,36 @@ pub fn txid(tx: &Tx) -> Hash256
     ensures { result ≡ id_of tx.now }
 {
     digest(tx)
+}
+
+/// The id of a transaction that stands in a text from one place to another: the hash of its bytes there, so that it
+/// isn't written again.
+pub fn txid_in(read: &Tx, text: &[u8], at: usize, end: usize) -> Hash256
+    requires stands { Stands tx text.now at read.now end }
+    requires within { end ≤ length text.now }
+    ensures { result ≡ id_of read.now }
+{
+    dsha(&text[at..end])
+}
+
+/// The transaction whose text stands next, and its id, which is the hash of the bytes that are read.
+pub fn read_with_id(reader: &mut Reader<'_>, alloc: Global) -> Result<(Tx, Hash256), ReadError>
+    ensures read { MatchResult result (λ x. Gives tx reader.old reader.new (Ok x.0)) (λ e. Gives tx reader.old reader.new (Err e)) }
+    ensures id { IfOk result (λ x. x.1 ≡ id_of x.0) }
+{
+    let at = reader.at();
+    let tx = Tx::read(reader, alloc)?;
+    let id = id_read(&tx, reader.text(), at, reader.at());
+    Ok((tx, id))
+}
+
+// The id of a transaction that was read from one place to another.
+fn id_read(read: &Tx, text: &[u8], at: usize, end: usize) -> Hash256
+    requires parsed { tx.parse text.now at ≡ Ok (read.now, end) }
+    requires within { end ≤ length text.now }
+    ensures { result ≡ id_of read.now }
+{
+    txid_in(read, text, at, end)
 }
 
 /// The hash of the outpoints of all inputs, in order, 36 bytes each. This takes no memory.

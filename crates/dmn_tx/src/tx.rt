@@ -5,6 +5,7 @@ ghost use Rattle.dmn_bytes.specs.Reading.{Gives};
 ghost use Rattle.dmn_bytes.specs.Sending.{Appends};
 ghost use Rattle.dmn_tx.specs.Tx.{tx, tx_in, tx_out, is_special, payload_of, tx_sound, tx_in_sound, tx_out_sound};
 
+use crate::kinds::{LONGEST_PAYLOAD, SPECIAL_VERSION};
 use dmn_bytes::{Bytes, Items, Memory, OutPoint, ReadError, Reader, Sink, Text};
 use std::alloc::Global;
 
@@ -117,7 +118,7 @@ impl Text for Tx {
 fn is_special(version: u16, kind: u16) -> bool
     ensures { result ≡ is_special version kind }
 {
-    version == 3 && kind != 0
+    version == SPECIAL_VERSION && kind != 0
 }
 
 #[tactic(auto, unfolding(crate::specs::Tx::payload_of))]
@@ -130,7 +131,7 @@ fn read_payload(
     ensures { Gives (payload_of version kind) reader.old reader.new result }
 {
     if is_special(version, kind) {
-        reader.blob_within(10_000, alloc)
+        reader.blob_within(LONGEST_PAYLOAD, alloc)
     } else {
         Ok(Bytes::new(alloc))
     }

@@ -4,12 +4,14 @@
 
 mod commitment;
 mod fault;
+mod mined;
 mod payloads;
 mod read;
 mod script;
 
 pub use commitment::{Bits, Commitment};
 pub use fault::PayloadFault;
+pub use mined::MinedAt;
 pub use payloads::{CbTx, ProReg, Revoke, UpReg, UpServ};
 pub use read::{
     read_cb, read_commitment, read_commitment_payload, read_pro_reg, read_revoke, read_up_reg,
@@ -17,6 +19,3 @@ pub use read::{
     write_up_serv,
 };
 pub use script::script_kind;
-
-#[cfg(test)]
-mod tests;

@@ -4,3 +4,9 @@ pub mod Keys
 pub mod Lookups
 pub mod Distinct
 pub mod Table
+pub mod Order
+pub mod Verdicts
+pub mod Lengths
+pub mod Ranked
+pub mod Puts
+pub mod Least

@@ -1,8 +1,11 @@
 -- What a registry starts from, and the numbers by which it works. A reader begins here; the parts are:
 --   Profile  the two profiles, by their tables
---   Row      a stored row, and the row that it stands for at a height
+--   Row      a stored row, and the row that it stands for at a height; bans, and since when a row waits to be paid
+--   RowText  the text of a row, field by field
 --   Rows     what is looked up in a list of rows and in a list of outputs, and how the lists change
 --   Sorted   lists in strictly ascending order of a key, and their changes
+--   Ranked   values in the order of their rank, and the least of them
+--   Waiting  who waits to be confirmed and to be paid, and in which order
 --   Listing  a list of rows and a list of outputs, as they are kept
 --   Distinct keys that no two rows have
 --   Start    the start record's format, field by field
@@ -10,6 +13,8 @@
 --   Verdict  a verdict's format, field by field
 --   Rule     the rules' numbers and names
 --   Table    tables of rules, and the first broken one
+--   Order    the broken rules of a table by their numbers
+--   Signed   the rules on a verdict that is needed
 use Rattle.std.specs.Prelude.{◌≡◌, ℕ, ◌≤◌, List, length}
 use Rattle.dmn_rows.specs.declared.start.StartRecord.{StartRecord}
 use Rattle.dmn_rows.specs.Start.{start_record, height_max, most_outputs}

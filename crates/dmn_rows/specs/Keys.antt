@@ -1,4 +1,4 @@
--- Hashes and outpoints are keys of rows and of outputs.
+-- Hashes are keys of rows, outpoints of outputs, and the places of transactions of verdicts.
 use Rattle.std.specs.Prelude.{◌≡◌, ℕ, ◌==◌, true, List, refl}
 use Rattle.std.specs.Cmp.{IsTotalOrder}
 use Rattle.std.specs.Cmp.Lexicographic.{on_texts}
@@ -15,6 +15,7 @@ use Rattle.dmn_bytes.specs.declared.hash.Hash256.{Hash256}
 use Rattle.dmn_bytes.specs.declared.points.OutPoint.{OutPoint}
 use Rattle.dmn_rows.specs.declared.row.MnRow.{MnRow}
 use Rattle.dmn_rows.specs.declared.start.StartOutput.{StartOutput}
+use Rattle.dmn_rows.specs.declared.verdict.Verdict.{Verdict}
 use Rattle.dmn_rows.specs.Rows.{same_hash, same_point, has_hash, has_point}
 use Rattle.dmn_rows.specs.Sorted.{IsKey}
 
@@ -71,4 +72,13 @@ output_key = record {
   exact = point_exact;
   decides = λ point o same. same_point-is o.point point same;
   decided = λ point o is. same_point-from o.point point is;
+}
+
+-- verdicts by the places of their transactions
+pub verdict_key : IsKey nat_cmp (λ (v : Verdict). v.tx) (λ place v. v.tx == place)
+verdict_key = record {
+  total = nat_cmp_total;
+  exact = exact_unsigned;
+  decides = λ place v same. eqb-true v.tx place same;
+  decided = λ place v is. eq-eqb v.tx place is;
 }

@@ -3,11 +3,16 @@ pub mod Profile
 pub mod Row
 pub mod Rows
 pub mod Sorted
+pub mod Ranked
+pub mod Waiting
 pub mod Keys
 pub mod Listing
 pub mod Distinct
 pub mod Rule
 pub mod Table
+pub mod Order
+pub mod Signed
+pub mod RowText
 pub mod Start
 pub mod Fault
 pub mod Verdict

@@ -8,11 +8,15 @@ abbrev pub quorum_row : ℕ → ℕ → ℕ → ℕ → ℕ → ℕ → ℕ → 
 quorum_row kind size minimum interval from to active =
     Some (record { kind = kind; size = size; minimum = minimum; interval = interval; from = from; to = to; active = active })
 
+-- how many blocks after its registration a masternode is confirmed, in each profile
+abbrev pub confirm_wait : ℕ
+confirm_wait = 16
+
 abbrev pub small_profile : Profile
 small_profile = record {
   id = 1;
   port = 19999;
-  confirm = 16;
+  confirm = confirm_wait;
   depth = 6;
   kept = 20;
   every = 8;
@@ -24,7 +28,7 @@ abbrev pub main_profile : Profile
 main_profile = record {
   id = 2;
   port = 9999;
-  confirm = 16;
+  confirm = confirm_wait;
   depth = 288;
   kept = 400;
   every = 288;

@@ -1,5 +1,5 @@
 -- What is looked up in a list of rows and in a list of outputs, and how the lists change.
-use Rattle.std.specs.Prelude.{ℕ, ◌==◌, Bool, not, ◌&&◌, List, Option, is_some, find, filter, map, if◌then◌else◌}
+use Rattle.std.specs.Prelude.{ℕ, ◌==◌, Bool, not, ◌&&◌, List, Option, None, Some, is_some, find, filter, map, if◌then◌else◌}
 use Rattle.std.specs.Option.{option_map}
 use Rattle.std.specs.Str.{bytes_eq}
 use Rattle.dmn_bytes.specs.Points.{is_zero, hash_cmp, point_cmp}
@@ -56,6 +56,11 @@ plain_rows h = map (plain h)
 -- the row is put in the order of hashes, in the place of the one of its hash where there is one
 abbrev pub put_row : MnRow → List MnRow → List MnRow
 put_row = put_sorted hash_cmp (λ r. r.hash)
+
+-- the list with a row changed, if it is there
+abbrev pub changed : (MnRow → MnRow) → Option MnRow → List MnRow → List MnRow
+changed change None rows = rows
+changed change (Some row) rows = put_row (change row) rows
 
 -- the rows of other hashes
 abbrev pub drop_row : Hash256 → List MnRow → List MnRow

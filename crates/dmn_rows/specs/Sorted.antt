@@ -1,5 +1,5 @@
 -- Lists in strictly ascending order of a key, and their changes.
-use Rattle.std.specs.Prelude.{◌≡◌, ℕ, suc, Bool, true, false, List, [], ◌∷◌, ◌++◌, filter, slice_get, if◌then◌else◌}
+use Rattle.std.specs.Prelude.{◌≡◌, ℕ, suc, Bool, true, false, List, [], ◌∷◌, ◌++◌, filter, find, is_some, slice_get, if◌then◌else◌}
 use Rattle.std.specs.Cmp.{IsTotalOrder}
 use Rattle.std.specs.List.{AllByRecursion}
 use Rattle.std.specs.Option.{option_map_or}
@@ -26,6 +26,10 @@ Ascends cmp key (v ∷ rest) = IsAbove cmp key (key v) rest × Ascends cmp key r
 -- the value stands behind those of lower keys and before those of higher ones, and no other has its key
 abbrev pub put_sorted : {K V : Type 0} → (K → K → Ordering) → (V → K) → V → List V → List V
 put_sorted cmp key v list = filter (λ w. is_lt (cmp (key w) (key v))) list ++ v ∷ filter (λ w. is_lt (cmp (key v) (key w))) list
+
+-- the value is put in its place; where one has its key already, that stays
+abbrev pub add_sorted : {K V : Type 0} → (K → K → Ordering) → (V → K) → (K → V → Bool) → V → List V → List V
+add_sorted cmp key has v list = if is_some (find (has (key v)) list) then list else put_sorted cmp key v list
 
 -- how many values at the front have a lower key
 abbrev pub place_in : {K V : Type 0} → (K → K → Ordering) → (V → K) → K → List V → ℕ

@@ -10,16 +10,17 @@ use Rattle.dmn_bytes.specs.Format.{Format, via, ◌⊗◌, kept, only, byte, has
 use Rattle.dmn_bytes.specs.Points.{is_zero, out_point, out_point_sound, pay, pay_sound, point_cmp}
 use Rattle.dmn_bytes.specs.Law.{IsSound}
 use Rattle.dmn_bytes.specs.Sound.{via_sound, both_sound, kept_here, only_sound, byte_sound, hash_sound, number16_sound, number32_sound, keyed_sound, ascending_sound, sized_sound}
+use Rattle.dmn_rows.specs.declared.limits.TheConstants.{GREATEST_HEIGHT, MOST_OUTPUTS}
 use Rattle.dmn_rows.specs.declared.start.StartOutput.{StartOutput}
 use Rattle.dmn_rows.specs.declared.start.StartRecord.{StartRecord}
 
 -- the greatest height of a block
 abbrev pub height_max : ℕ
-height_max = 4294967294
+height_max = GREATEST_HEIGHT
 
 -- as many outputs as there may be
 abbrev pub most_outputs : ℕ
-most_outputs = 1048576
+most_outputs = MOST_OUTPUTS
 
 unfoldable pub version_field : Format ℕ
 version_field = kept (λ i. Form i) (λ n. n == 1) (number w16)

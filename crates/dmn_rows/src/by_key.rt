@@ -2,7 +2,7 @@
 
 ghost use Rattle.std.specs.Prelude.{◌≡◌, ◌<◌, ◌≤◌, Bool, IsTrue, filter, find, length, not, is_ok, is_some, if◌then◌else◌};
 ghost use Rattle.std.specs.Option.{option_copied};
-ghost use Rattle.dmn_rows.specs.Sorted.{Ascends, IsKey, put_sorted, place_in, passes_at};
+ghost use Rattle.dmn_rows.specs.Sorted.{Ascends, IsKey, add_sorted, put_sorted, place_in, passes_at};
 
 use std::alloc::AllocError;
 
@@ -69,6 +69,21 @@ pub fn put_sorted<K: Ord, V: ByKey<K>>(values: &mut Vec<V>, value: V) -> Result<
     let at = place_of(values, value.key());
     if has_key_at(values, at, value.key()) {
         values[at] = value;
+        Ok(())
+    } else {
+        Ok(values.insert(at, value)?)
+    }
+}
+
+/// Adds a value in its place, unless its key is there. Without memory nothing changes.
+pub fn add_sorted<K: Ord, V: ByKey<K>>(values: &mut Vec<V>, value: V) -> Result<(), AllocError>
+    requires { Ascends K.cmp V.key_of values.old.items }
+    ensures add { values.new.items
+        ≡ (if is_ok result then add_sorted K.cmp V.key_of V.has value values.old.items else values.old.items) }
+    ensures ascends { Ascends K.cmp V.key_of values.new.items }
+{
+    let at = place_of(values, value.key());
+    if has_key_at(values, at, value.key()) {
         Ok(())
     } else {
         Ok(values.insert(at, value)?)

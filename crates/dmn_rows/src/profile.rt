@@ -42,13 +42,16 @@ pub struct Profile {
     pub quorums: [Option<QuorumParams>; 3],
 }
 
+/// How many blocks after its registration a masternode is confirmed, in each profile.
+pub const CONFIRM_WAIT: u32 = 16;
+
 fn small() -> Profile
     ensures { result ≡ small_profile }
 {
     Profile {
         id: 1,
         port: 19_999,
-        confirm: 16,
+        confirm: CONFIRM_WAIT,
         depth: 6,
         kept: 20,
         every: 8,
@@ -75,7 +78,7 @@ fn main() -> Profile
     Profile {
         id: 2,
         port: 9_999,
-        confirm: 16,
+        confirm: CONFIRM_WAIT,
         depth: 288,
         kept: 400,
         every: 288,

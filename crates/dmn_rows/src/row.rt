@@ -1,6 +1,10 @@
 //! A masternode, as a row of the list.
 
-use dmn_bytes::{Hash256, OutPoint, Pay, Service};
+ghost use Rattle.std.specs.Prelude.{◌≡◌};
+ghost use Rattle.dmn_rows.specs.Row.{ban, pay_key, plain};
+ghost use Rattle.dmn_rows.specs.Rows.{no_service};
+
+use dmn_bytes::{Hash256, OutPoint, Pay, Service, is_zero};
 
 /// A registered masternode (DIP-0003). It is stored with the penalty that was in force at some height, since a
 /// penalty falls by one a block and no row is written for that.
@@ -40,4 +44,55 @@ pub struct MnRow {
     /// The output that is held as its collateral, and what that output pays to.
     pub collateral: OutPoint,
     pub script: Pay,
+}
+
+/// The row as it is after block `height`: its penalty in force, and no `penalty_at`.
+pub fn plain_at(row: &MnRow, height: u32) -> MnRow
+    ensures { result ≡ plain height row.now }
+{
+    let past = height.saturating_sub(row.penalty_at);
+    MnRow {
+        penalty: if row.banned == 0 {
+            row.penalty.saturating_sub(past)
+        } else {
+            row.penalty
+        },
+        penalty_at: 0,
+        ..*row
+    }
+}
+
+/// The row, banned from this height on if it wasn't banned before.
+pub fn ban(height: u32, row: &MnRow) -> MnRow
+    ensures row { result ≡ ban height row.now }
+    ensures at { result.penalty_at ≡ row.now.penalty_at }
+{
+    if row.banned == 0 {
+        MnRow {
+            banned: height,
+            ..*row
+        }
+    } else {
+        *row
+    }
+}
+
+/// The height since which the row waits to be paid.
+pub fn pay_key(row: &MnRow) -> u32
+    ensures { result ≡ pay_key row.now }
+{
+    if row.last_paid < row.revived {
+        row.revived
+    } else if row.last_paid == 0 {
+        row.registered
+    } else {
+        row.last_paid
+    }
+}
+
+/// Whether no service is set.
+pub fn no_service(service: &Service) -> bool
+    ensures { result ≡ no_service service.now }
+{
+    is_zero(&service.address) && service.port == 0
 }

@@ -1,14 +1,14 @@
 //! The plain list of rows and of outputs.
 
 ghost use Rattle.std.specs.Prelude.{◌≡◌, [], OnOk, OnErr, IfOk, find, is_some};
-ghost use Rattle.dmn_rows.specs.Rows.{has_hash, has_point, no_service as not_set, put_row, put_output, drop_row, drop_output};
+ghost use Rattle.dmn_rows.specs.Rows.{has_hash, has_point, put_row, put_output, drop_row, drop_output};
 ghost use Rattle.dmn_rows.specs.Start.{point_of};
 ghost use Rattle.dmn_rows.specs.Listing.{IsAscending, OutputsAscend};
 ghost use Rattle.dmn_rows.specs.Keys.{row_key, output_key};
 
-use crate::by_key::{ByKey, drop_sorted, find_sorted, put_sorted};
+use crate::by_key::{ByKey, add_sorted, drop_sorted, find_sorted, put_sorted};
 use crate::look::Look;
-use crate::row::MnRow;
+use crate::row::{MnRow, no_service};
 use crate::start::StartOutput;
 use dmn_bytes::{Hash256, Items, Memory, OutPoint, Pay, Service, is_zero};
 use std::alloc::Global;
@@ -82,10 +82,7 @@ impl RowList {
         ensures ok { OnOk result (self.new ≡ record self.old { outputs = put_output point pay self.old.outputs }) }
         ensures err { OnErr result (self.new ≡ self.old) }
     {
-        if find_sorted(&self.outputs, &point).is_none() {
-            put_sorted(&mut self.outputs, StartOutput { point, pay })?;
-        }
-        Ok(())
+        Ok(add_sorted(&mut self.outputs, StartOutput { point, pay })?)
     }
 
     /// Takes the output at an outpoint away, and tells whether it was there. This takes no memory.
@@ -146,13 +143,6 @@ impl ByKey<OutPoint> for StartOutput {
     fn has_key(&self, point: &OutPoint) -> bool {
         self.point == *point
     }
-}
-
-// Whether no service is set.
-fn no_service(service: &Service) -> bool
-    ensures { result ≡ not_set service.now }
-{
-    is_zero(&service.address) && service.port == 0
 }
 
 impl Look for RowList {

@@ -1,6 +1,7 @@
 //! The rules of a block.
 
 use dmn_bytes::Hash256;
+use std::error::Error;
 use std::fmt;
 
 /// The rules of a block, each with what its refusal tells. A comment gives the rule's number and where it is broken.
@@ -327,6 +328,8 @@ impl Rule {
         }
     }
 }
+
+impl Error for Rule {}
 
 impl fmt::Display for Rule {
     ghost use Rattle.std.specs.Prelude.{Some};

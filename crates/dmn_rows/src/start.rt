@@ -8,11 +8,13 @@ ghost use Rattle.dmn_rows.specs.Fault.{StartDeparts};
 ghost use Rattle.dmn_rows.specs.Listing.{OutputsAscend};
 ghost use Rattle.dmn_rows.specs.Start.{behind_point, count_field, first_field, hash_field, outputs_field, point_of, profile_field, start_output, start_output_sound, start_record, start_record_sound, version_field};
 
+use crate::limits::{GREATEST_HEIGHT, MOST_OUTPUTS};
 use dmn_bytes::{
     Bytes, Departure, Hash256, Items, Keyed, Memory, OutPoint, Pay, ReadError, Reader, Sink, Text,
     feed_count, feed_many, is_zero, read_ascending, read_whole, write,
 };
 use std::alloc::Global;
+use thiserror::Error;
 
 /// An unspent output of 1,000 DASH, as a start record lists it.
 #[derive(Clone, Copy, Debug, PartialEq, Eq)]
@@ -36,10 +38,13 @@ pub struct StartRecord {
 }
 
 /// Why a text is no start record.
-#[derive(Clone, Copy, Debug, PartialEq, Eq)]
+#[derive(Clone, Copy, Debug, PartialEq, Eq, Error)]
 pub enum StartFault {
     /// The first byte of the first field that departs.
+    #[error("the start record departs from its form at byte {at}")]
     StartForm { at: usize },
+    /// Memory ran out.
+    #[error("memory ran out")]
     Memory,
 }
 
@@ -90,7 +95,7 @@ fn read_first(reader: &mut Reader<'_>) -> Result<u32, ReadError>
 {
     let at = reader.at();
     let first = reader.u32()?;
-    if 1 <= first && first <= 4_294_967_294 {
+    if 1 <= first && first <= GREATEST_HEIGHT {
         Ok(first)
     } else {
         Err(ReadError::Departs(Departure::Form { at }))
@@ -116,7 +121,7 @@ fn read_count(reader: &mut Reader<'_>) -> Result<u32, ReadError>
 {
     let at = reader.at();
     let count = reader.u32()?;
-    if count <= 1_048_576 {
+    if count <= MOST_OUTPUTS {
         Ok(count)
     } else {
         Err(ReadError::Departs(Departure::Form { at }))

@@ -1,9 +1,24 @@
 //! Verdicts on signatures.
 
+ghost use Rattle.std.specs.Prelude.{◌==◌};
+ghost use Rattle.dmn_rows.specs.Keys.{verdict_key};
 ghost use Rattle.dmn_rows.specs.Verdict.{verdict, verdict_sound};
 
+use crate::by_key::ByKey;
 use dmn_bytes::{Hash256, ReadError, Reader, Sink, Text};
 use std::alloc::Global;
+
+/// A verdict on the key that a registration's collateral pays to.
+pub const COLLATERAL_KEY: u8 = 1;
+
+/// A verdict on a row's owner key.
+pub const OWNER_KEY: u8 = 2;
+
+/// A verdict on a row's operator key.
+pub const OPERATOR_KEY: u8 = 3;
+
+/// A verdict on the keys of a quorum's members.
+pub const MEMBERS_KEYS: u8 = 4;
 
 /// What somebody else found of a signature in a block. It is handed in with the block and not checked here.
 #[derive(Clone, Copy, Debug, PartialEq, Eq)]
@@ -42,5 +57,22 @@ impl Text for Verdict {
         self.kind.feed(sink);
         self.key.feed(sink);
         self.valid.feed(sink);
+    }
+}
+
+// Verdicts of a block ascend by the places of their transactions.
+impl ByKey<u32> for Verdict {
+    ghost key_of = { λ v. v.tx };
+
+    ghost has = { λ place v. v.tx == place };
+
+    ghost is_key = { verdict_key };
+
+    fn key(&self) -> &u32 {
+        &self.tx
+    }
+
+    fn has_key(&self, place: &u32) -> bool {
+        self.tx == *place
     }
 }

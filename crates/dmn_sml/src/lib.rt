@@ -7,6 +7,3 @@ mod page;
 
 pub use entry::{SmlEntry, entry_of, entry_text};
 pub use list::{SmlList, list_root};
-
-#[cfg(test)]
-mod tests;

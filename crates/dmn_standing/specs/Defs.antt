@@ -1,0 +1,7 @@
+-- How masternodes stand: confirmation, penalties, and the order in which they are paid (DIP-0003, DIP-0006). A reader
+-- begins here; the parts are:
+--   Standing  what a block does to every row, and penalties for missing from quorums
+--   Payment   who is paid next, and how a reward is split
+--   Dues      a row's turn to be paid, by itself
+-- The order in which rows are paid is that of dmn_rows (Waiting).
+-- Rows are those of the definitions: ascending by hash, each with its penalty in force.

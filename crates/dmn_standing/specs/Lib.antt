@@ -1,0 +1,4 @@
+pub mod Defs
+pub mod Standing
+pub mod Payment
+pub mod Dues

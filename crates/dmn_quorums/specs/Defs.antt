@@ -1,0 +1,10 @@
+-- Quorums of masternodes: who is a member, when a commitment is due, which quorums are active, and the rules on a
+-- commitment (DIP-0006). A reader begins here; the parts are:
+--   Number  a number by its bytes
+--   Score   scores, and members by them
+--   Duty    when a block has to have a commitment, and which quorums are active
+--   Digest  what a verdict on the members' signature is on
+--   Bitset  sets of bits
+--   Rules   the rules on a commitment, by tables
+--   Items   a mined commitment as it is lent
+-- Rows are those of the base block's list; mined commitments stand in the order in which they were mined.

@@ -1,0 +1,75 @@
+-- When a block has to have a commitment of a type, and which quorums are active (DIP-0006).
+use Rattle.std.specs.Prelude.{ℕ, ◌-◌, ◌%◌, ◌<◌, ◌==◌, ◌&&◌, not, nat_le, Bool, List, filter, length, drop, map, Option, None, Some}
+use Rattle.std.specs.List.{count_by, list_any, AllByRecursion}
+use Rattle.dmn_payloads.specs.declared.mined.MinedAt.{MinedAt}
+use Rattle.dmn_payloads.specs.declared.commitment.Commitment.{Commitment}
+use Rattle.dmn_rows.specs.declared.profile.QuorumParams.{QuorumParams}
+use Rattle.dmn_rows.specs.declared.rule.Rule.{Rule}
+use Rattle.dmn_rows.specs.declared.rule.Rule.TheVariants.{QuorumMissing}
+use Rattle.dmn_rows.specs.Table.{when, first_broken}
+
+-- the height of the block from which a quorum's members are drawn, by a height at which it may be mined
+abbrev pub base_of : QuorumParams → ℕ → ℕ
+base_of params height = height - height % params.interval
+
+-- the height is so far behind its base that a commitment may be mined, and the base isn't below the first block
+abbrev pub is_in_window : QuorumParams → ℕ → ℕ → Bool
+is_in_window params start height =
+    nat_le start (base_of params height) && (nat_le params.from (height % params.interval) && nat_le (height % params.interval) params.to)
+
+-- A block has a commitment of a type while none that isn't null was mined for its base.
+abbrev pub has_duty : QuorumParams → ℕ → ℕ → Bool → Bool
+has_duty params start height done = is_in_window params start height && not done
+
+-- ---- mined commitments
+
+-- one of this type, mined at or below this height
+abbrev pub is_of : QuorumParams → ℕ → MinedAt → Bool
+is_of params height m = m.commitment.kind == params.kind && nat_le m.height height
+
+-- one for the base of this height
+abbrev pub is_for : QuorumParams → ℕ → MinedAt → Bool
+is_for params height m = m.commitment.kind == params.kind && base_of params m.height == base_of params height
+
+-- one that isn't null was mined for the base of this height
+abbrev pub is_done : QuorumParams → ℕ → List MinedAt → Bool
+is_done params height mined = list_any (is_for params height) mined
+
+-- 80: a block at this height has to have a commitment of the type and has none; `kinds` are the types of the commitments
+-- that it has
+unfoldable pub missing_of : ℕ → ℕ → List MinedAt → List ℕ → Option QuorumParams → Option Rule
+missing_of start height mined kinds None = None
+missing_of start height mined kinds (Some params) =
+    when (has_duty params start height (is_done params height mined) && not (list_any (λ kind. kind == params.kind) kinds)) (QuorumMissing params.kind)
+
+-- the same of the first of some types
+abbrev pub missing : ℕ → ℕ → List MinedAt → List ℕ → List (Option QuorumParams) → Option Rule
+missing start height mined kinds quorums = first_broken (map (missing_of start height mined kinds) quorums)
+
+-- each type has an interval
+abbrev pub HasInterval : Option QuorumParams → Type 0
+HasInterval None = Unit {0}
+HasInterval (Some params) = 0 < params.interval
+
+abbrev pub HaveIntervals : List (Option QuorumParams) → Type 0
+HaveIntervals = AllByRecursion HasInterval
+
+-- those that weren't mined above a height
+abbrev pub undone : ℕ → List MinedAt → List MinedAt
+undone height = filter (λ m. nat_le m.height height)
+
+-- the last so many of a list
+abbrev pub last : {X : Type 0} → ℕ → List X → List X
+last n list = drop (length list - n) list
+
+-- The active quorums of a type at a height, each with the height at which it was mined, the oldest first.
+abbrev pub active_at : List MinedAt → QuorumParams → ℕ → List MinedAt
+active_at mined params height = last params.active (filter (is_of params height) mined)
+
+-- the same, without heights
+abbrev pub active_of : List MinedAt → QuorumParams → ℕ → List Commitment
+active_of mined params height = map (λ m. m.commitment) (active_at mined params height)
+
+-- how many of the type aren't among the last ones
+abbrev pub older : List MinedAt → QuorumParams → ℕ → ℕ
+older mined params height = count_by (is_of params height) mined - params.active

@@ -1,0 +1,9 @@
+pub mod Counting
+pub mod Cutting
+pub mod Index
+pub mod Table
+pub mod Whole
+pub mod Places
+pub mod Plain
+pub mod SameParts
+pub mod Absent

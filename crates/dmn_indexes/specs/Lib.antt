@@ -1,0 +1,9 @@
+pub mod Defs
+pub mod Index
+pub mod Keys
+pub mod Marks
+pub mod Order
+pub mod Parts
+pub mod Stands
+pub mod Version
+pub mod Working

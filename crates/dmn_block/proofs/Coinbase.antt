@@ -12,7 +12,8 @@ use Rattle.dmn_payloads.specs.declared.payloads.CbTx.{CbTx}
 use Rattle.dmn_payloads.specs.declared.fault.PayloadFault.TheVariants.{PayloadVersion, PayloadForm}
 use Rattle.dmn_rows.specs.declared.rule.Rule.TheVariants.{CbPayload, CbVersion}
 use Rattle.dmn_tx.specs.declared.tx.Tx.{Tx}
-use Rattle.dmn_block.specs.Shape.{unnumbered, first_broken, payload_rules, version_of, is_no_payload, is_cb_type, other_height, Refusal}
+use Rattle.dmn_block.specs.declared.refusal.Refusal.{Refusal}
+use Rattle.dmn_block.specs.Shape.{unnumbered, first_broken, by_tx, payload_rules, version_of, is_no_payload, is_cb_type, other_height}
 
 -- ---- what the reader's answer says
 
@@ -49,21 +50,21 @@ is_one payload long none =
     let two : nat_le 2 (length payload) ≡ true = le-leb 2 (length payload) long in
     not_chosen (version_of payload == 1) (version_of payload) (subst (λ (b : Bool). (if b && not (version_of payload == 1) then Some (version_of payload) else None) ≡ None) two none)
 
-pub payload_other : (height : ℕ) (tx : Tx) → is_cb_type tx ≡ false → first_broken (unnumbered (payload_rules height tx)) ≡ Some (CbPayload, Some 0)
+pub payload_other : (height : ℕ) (tx : Tx) → is_cb_type tx ≡ false → first_broken (unnumbered (payload_rules height tx)) ≡ Some (by_tx 0 CbPayload)
 unfolding payload_rules
 payload_other height tx other = rw other refl
 
 long_by : (n : ℕ) → nat_le 2 n ≡ true → 2 ≤ n
 long_by n e = leb-true 2 n e
 
-pub payload_version : (height : ℕ) (tx : Tx) (found : ℕ) → is_cb_type tx ≡ true → other_version tx.payload ≡ Some found → first_broken (unnumbered (payload_rules height tx)) ≡ Some (CbVersion found, Some 0)
+pub payload_version : (height : ℕ) (tx : Tx) (found : ℕ) → is_cb_type tx ≡ true → other_version tx.payload ≡ Some found → first_broken (unnumbered (payload_rules height tx)) ≡ Some (by_tx 0 (CbVersion found))
 unfolding payload_rules is_no_payload
 payload_version height tx found is e =
     let h = chosen (nat_le 2 (length tx.payload)) (version_of tx.payload == 1) (version_of tx.payload) found e in
     let long : nat_lt (length tx.payload) 2 ≡ false = le-ltb (length tx.payload) 2 (long_by (length tx.payload) h.1) in
     rw (is, long, h.0, h.2) refl
 
-pub payload_form : (height : ℕ) (tx : Tx) (d : Departure) → is_cb_type tx ≡ true → other_version tx.payload ≡ None → whole cb tx.payload ≡ Err d → first_broken (unnumbered (payload_rules height tx)) ≡ Some (CbPayload, Some 0)
+pub payload_form : (height : ℕ) (tx : Tx) (d : Departure) → is_cb_type tx ≡ true → other_version tx.payload ≡ None → whole cb tx.payload ≡ Err d → first_broken (unnumbered (payload_rules height tx)) ≡ Some (by_tx 0 CbPayload)
 unfolding payload_rules is_no_payload
 payload_form height tx d is none e =
     elim (cases_lt (length tx.payload) 2) [

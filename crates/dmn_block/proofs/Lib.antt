@@ -2,3 +2,4 @@ pub mod Bounds
 pub mod Rules
 pub mod Coinbase
 pub mod Seen
+mod Numbers

@@ -1,17 +1,20 @@
 -- The table of rules by its parts, and the least place that passes a test.
 use Rattle.std.proofs.Common.{◌≡◌, ℕ, zero, suc, ◌+◌, ◌<◌, ◌≤◌, Bool, true, false, [], ◌∷◌, Option, Some, None, refl, ap, ◌∙◌, arith, inl, inr}
-use Rattle.std.specs.Prelude.{if◌then◌else◌}
+use Rattle.std.specs.Prelude.{if◌then◌else◌, Result, Ok, Err, OnOk}
+use Rattle.std.specs.List.{AllByRecursion}
 use Rattle.std.specs.Option.{option_or}
+use Rattle.std.specs.Ordering.{nat_cmp}
+use Rattle.std.specs.declared.cmp.Ordering.TheVariants.{Less}
 use Rattle.std.proofs.lemmas.Bool.{cases_lt}
 use Rattle.std.specs.Prelude.{◌&&◌, nat_lt, nat_le, slice_get, drop, length, List, get_or}
 use Rattle.std.specs.Option.{option_map}
 use Rattle.std.proofs.lemmas.Bool.{lt-ltb, ltb-true, leb-true}
 use Rattle.std.proofs.lemmas.List.{drop_more, drop_all}
 use Rattle.dmn_rows.specs.declared.verdict.Verdict.{Verdict}
-use Rattle.dmn_rows.specs.declared.rule.Rule.TheVariants.{NoCoinbase}
+use Rattle.dmn_rows.specs.declared.rule.Rule.TheVariants.{NoCoinbase, VerdictForm}
 use Rattle.dmn_tx.specs.declared.tx.Tx.{Tx}
 use Rattle.dmn_block.specs.declared.frame.BlockFrame.{BlockFrame}
-use Rattle.dmn_block.specs.Shape.{unnumbered, first_broken, least, passes, is_coinbase, is_second_coinbase, is_in_form, bad_verdict, tx_rules, begins_with_coinbase}
+use Rattle.dmn_block.specs.Shape.{unnumbered, first_broken, by_block, least, passes, is_coinbase, is_second_coinbase, is_in_form, bad_verdict, tx_rules, verdict_rules, begins_with_coinbase, VerdictsAscend}
 
 or_none : (a b : Option ℕ) → option_or a b ≡ None → a ≡ None
 or_none None b e = refl
@@ -64,7 +67,7 @@ and_false false b e = refl
 pub second_not : (txs : List Tx) (i : ℕ) (d : Tx) → i < length txs → is_coinbase (get_or txs i d) ≡ false → is_second_coinbase txs i ≡ false
 second_not txs i d lt fails = and_false (nat_lt 0 i) (passes is_coinbase (slice_get txs i)) (passes_at is_coinbase txs i d lt ∙ fails)
 
-pub none_first : (block : BlockFrame) → block.txs ≡ [] → first_broken (unnumbered (tx_rules block)) ≡ Some (NoCoinbase, None)
+pub none_first : (block : BlockFrame) → block.txs ≡ [] → first_broken (unnumbered (tx_rules block)) ≡ Some (by_block NoCoinbase)
 unfolding tx_rules begins_with_coinbase
 none_first block none = rw none refl
 
@@ -111,3 +114,41 @@ bad_end count from vs i le = rw (drop_all i vs le) refl
 
 pub some_is_none : {X : Type 0} {x : X} → Some x ≡ None → ⊥
 some_is_none e = absurd cc
+
+-- ---- the order of verdicts
+
+map_none : (o : Option ℕ) → option_map suc o ≡ None → o ≡ None
+map_none None e = refl
+map_none (Some k) e = absurd cc
+
+behind : (k : ℕ) (vs : List Verdict) → AllByRecursion (λ (v : Verdict). k + 1 ≤ v.tx) vs → AllByRecursion (λ (v : Verdict). nat_cmp k v.tx ≡ Less) vs
+behind k [] all = tt
+behind k (v ∷ vs) all = (rw (lt-ltb k v.tx (omega (arith, all.0))) refl, behind k vs all.1)
+
+from_lower : (low high : ℕ) (vs : List Verdict) → low ≤ high → AllByRecursion (λ (v : Verdict). high ≤ v.tx) vs → AllByRecursion (λ (v : Verdict). low ≤ v.tx) vs
+from_lower low high [] le all = tt
+from_lower low high (v ∷ vs) le all = (omega (arith, le, all.0), from_lower low high vs le all.1)
+
+ascend_from : (count from : ℕ) (vs : List Verdict) → bad_verdict count from vs ≡ None → AllByRecursion (λ (v : Verdict). from ≤ v.tx) vs × VerdictsAscend vs
+unfolding bad_verdict
+ascend_from count from [] none = (tt, tt)
+ascend_from count from (v ∷ vs) none = go (λ later. ascend_from count (v.tx + 1) vs later) (is_in_form count from v) refl none
+  where
+    go : (bad_verdict count (v.tx + 1) vs ≡ None → AllByRecursion (λ (w : Verdict). v.tx + 1 ≤ w.tx) vs × VerdictsAscend vs) → (b : Bool) → is_in_form count from v ≡ b → (if b then option_map suc (bad_verdict count (v.tx + 1) vs) else Some 0) ≡ None → AllByRecursion (λ (w : Verdict). from ≤ w.tx) (v ∷ vs) × VerdictsAscend (v ∷ vs)
+    go later false is e = absurd cc
+    go later true is e =
+        let rest = later (map_none (bad_verdict count (v.tx + 1) vs) e) in
+        let here : from ≤ v.tx = in_form_from count from v is in
+        ((here, from_lower from (v.tx + 1) vs (omega (arith, here)) rest.0), (behind v.tx vs rest.0, rest.1))
+
+form_none : (o : Option ℕ) → first_broken (option_map (λ k. by_block (VerdictForm k)) o ∷ []) ≡ None → o ≡ None
+form_none None e = refl
+form_none (Some k) e = absurd cc
+
+pub verdicts_ascend : (block : BlockFrame) → first_broken (unnumbered (verdict_rules block)) ≡ None → VerdictsAscend block.verdicts
+unfolding verdict_rules
+verdicts_ascend block none = (ascend_from (length block.txs) 0 block.verdicts (form_none (bad_verdict (length block.txs) 0 block.verdicts) none)).1
+
+pub on_ok : {V E P : Type 0} (r : Result V E) → P → OnOk r P
+on_ok (Ok v) p = p
+on_ok (Err e) p = tt

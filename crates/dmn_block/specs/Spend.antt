@@ -5,6 +5,7 @@ use Rattle.std.specs.Prelude.{ℕ, ◌+◌, ◌==◌, not, List, [], ◌∷◌, 
 use Rattle.dmn_bytes.specs.declared.hash.Hash256.{Hash256}
 use Rattle.dmn_bytes.specs.declared.points.OutPoint.{OutPoint}
 use Rattle.dmn_payloads.specs.Scripts.{pay_of}
+use Rattle.dmn_rows.specs.declared.limits.TheConstants.{COLLATERAL_VALUE}
 use Rattle.dmn_rows.specs.Listing.{Listing}
 use Rattle.dmn_rows.specs.Rows.{has_collateral, put_output, drop_output}
 use Rattle.dmn_tx.specs.declared.tx.Tx.{Tx}
@@ -14,7 +15,7 @@ use Rattle.dmn_tx.specs.Defs.{id_of}
 
 -- 1,000 DASH, in duffs
 abbrev pub collateral_value : ℕ
-collateral_value = 100000000000
+collateral_value = COLLATERAL_VALUE
 
 abbrev pub spend_point : OutPoint → Listing → Listing
 spend_point point list = record {

@@ -5,7 +5,7 @@ use Rattle.dmn_rows.specs.declared.row.MnRow.{MnRow}
 use Rattle.dmn_rows.specs.declared.start.StartRecord.{StartRecord}
 use Rattle.dmn_rows.specs.Rows.{Outputs}
 use Rattle.dmn_block.specs.declared.frame.BlockFrame.{BlockFrame}
-use Rattle.dmn_block.specs.declared.mined.MinedAt.{MinedAt}
+use Rattle.dmn_payloads.specs.declared.mined.MinedAt.{MinedAt}
 
 pub record State : Type 0 where
   pub height : ℕ

@@ -2,9 +2,9 @@
 
 ghost use Rattle.dmn_block.specs.Body.{connect_body, connect_body_sound, header, header_sound};
 
+use crate::with_id::WithId;
 use dmn_bytes::{Hash256, Items, ReadError, Reader, Sink, Text};
 use dmn_rows::Verdict;
-use dmn_tx::Tx;
 use std::alloc::Global;
 
 /// A block's header, 80 bytes.
@@ -26,7 +26,7 @@ pub struct ConnectBody {
     /// The block's hash.
     pub hash: Hash256,
     pub header: Header,
-    pub txs: Items<Tx>,
+    pub txs: Items<WithId>,
     pub verdicts: Items<Verdict>,
 }
 

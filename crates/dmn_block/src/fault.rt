@@ -1,15 +1,18 @@
 //! Why a block could not be read, or is refused by its shape.
 
+use crate::refusal::Refusal;
 use dmn_bytes::{Departure, Memory, ReadError};
-use dmn_rows::Rule;
+use thiserror::Error;
 
 /// Why a block could not be read.
-#[derive(Clone, Copy, Debug, PartialEq, Eq)]
+#[derive(Clone, Copy, Debug, PartialEq, Eq, Error)]
 pub enum BlockFault {
     /// The first byte of the first field that departs, counted from the body's first byte. A payload of more than
     /// 10,000 bytes departs at its length.
+    #[error("the block departs from its form at byte {at}")]
     BlockForm { at: usize },
     /// Memory ran out.
+    #[error("memory ran out")]
     Memory,
 }
 
@@ -40,11 +43,13 @@ impl From<Memory> for BlockFault {
 }
 
 /// Why a block may not follow the tip.
-#[derive(Clone, Copy, Debug, PartialEq, Eq)]
+#[derive(Clone, Copy, Debug, PartialEq, Eq, Error)]
 pub enum ShapeFault {
-    /// The first rule that is broken, and the place of the transaction that it names.
-    Broken(Rule, Option<u32>),
+    /// By the first rule that is broken.
+    #[error("the block is refused: {0}")]
+    Broken(Refusal),
     /// Memory ran out.
+    #[error("memory ran out")]
     Memory,
 }
 

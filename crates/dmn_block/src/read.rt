@@ -14,8 +14,9 @@ ghost use Rattle.dmn_block.specs.declared.frame.BlockFrame.{BlockFrame};
 use crate::body::{ConnectBody, Header};
 use crate::fault::BlockFault;
 use crate::frame::BlockFrame;
+use crate::with_id::WithId;
 use dmn_bytes::{Bytes, Draft, Hash256, Items, Memory, Sink, Text, read_whole};
-use dmn_tx::{Tx, txid};
+use dmn_tx::Tx;
 use std::alloc::Global;
 
 /// The block that the body connects. A count takes no memory ahead of what it counts, and each id is computed once.
@@ -44,25 +45,35 @@ pub fn read_block(alloc: Global, body: &[u8]) -> Result<BlockFrame, BlockFault>
 fn frame_of(alloc: Global, body: ConnectBody) -> Result<BlockFrame, Memory>
     ensures { IfOk result (λ block. block ≡ frame_of body) }
 {
-    let ids = ids_of(alloc, body.txs.as_slice())?;
+    let ConnectBody {
+        hash,
+        header,
+        txs,
+        verdicts,
+    } = body;
+    let (txs, ids) = told_apart(alloc, txs)?;
     Ok(BlockFrame {
-        hash: body.hash,
-        prev: body.header.prev,
-        merkle: body.header.merkle,
-        txs: body.txs,
+        hash,
+        prev: header.prev,
+        merkle: header.merkle,
+        txs,
         ids,
-        verdicts: body.verdicts,
+        verdicts,
     })
 }
 
-fn ids_of(alloc: Global, txs: &[Tx]) -> Result<Items<Hash256>, Memory>
-    ensures { IfOk result (λ ids. ids ≡ map id_of txs.now) }
+// The transactions, and their ids, in order.
+fn told_apart(alloc: Global, read: Items<WithId>) -> Result<(Items<Tx>, Items<Hash256>), Memory>
+    ensures { IfOk result (λ parts. (parts.0 ≡ read) × (parts.1 ≡ map id_of read)) }
 {
+    let mut txs = Vec::new(alloc);
     let mut ids = Vec::new(alloc);
-    for tx in txs {
-        ids.push(txid(tx)).map_err(|_| Memory)?;
+    for one in read.into_vec() {
+        let (tx, id) = one.into_parts();
+        txs.push(tx).map_err(|_| Memory)?;
+        ids.push(id).map_err(|_| Memory)?;
     }
-    Ok(Items::from_vec(ids))
+    Ok((Items::from_vec(txs), Items::from_vec(ids)))
 }
 
 /// Appends the text of the body that connects the block, with these four numbers in the header. A refusal changes

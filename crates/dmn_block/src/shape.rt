@@ -1,22 +1,21 @@
 //! The rules on a block as a whole, in the order of their numbers.
 
-ghost use Rattle.std.specs.Prelude.{◌≡◌, ◌≤◌, ◌+◌, ◌==◌, [], ◌∷◌, length, IfOk};
+ghost use Rattle.std.specs.Prelude.{◌≡◌, ◌≤◌, ◌+◌, ◌==◌, [], ◌∷◌, length, IfOk, OnOk};
 ghost use Rattle.dmn_payloads.specs.Payloads.{cb};
 ghost use Rattle.dmn_block.specs.Defs.{IsBlock, most_items};
 ghost use Rattle.dmn_block.specs.Shape as table;
-ghost use Rattle.dmn_block.specs.Shape.{Judges, IsPayloadOfFirst};
+ghost use Rattle.dmn_block.specs.Shape.{Judges, IsPayloadOfFirst, VerdictsAscend};
 
 use crate::fault::ShapeFault;
 use crate::frame::BlockFrame;
+use crate::refusal::Refusal;
 use dmn_bytes::{Hash256, Memory, is_zero};
 use dmn_merkle::root;
 use dmn_payloads::{CbTx, PayloadFault, read_cb};
-use dmn_rows::{Rule, Verdict};
-use dmn_tx::{Tx, TxIn};
+use dmn_rows::{COLLATERAL_KEY, GREATEST_HEIGHT, MEMBERS_KEYS, Rule, Verdict, check, when};
+use dmn_tx::{COINBASE_TX, SPECIAL_VERSION, Tx, TxIn};
 use std::alloc::Global;
 use std::collections::BTreeSet;
-
-type Refusal = (Rule, Option<u32>);
 
 /// Judges a block that is to follow this tip by rules 1, 3, 4 and 6 to 13, in the order of their numbers, and gives
 /// the coinbase's payload. Equal ids are found by an ordered set, and not by comparing all pairs.
@@ -33,39 +32,49 @@ pub fn check_shape(
     ensures payload { IfOk result (IsPayloadOfFirst block.now.txs) }
     // It tells the height behind the tip's, so that fits 32 bits.
     ensures height { IfOk result (λ value. value.height ≡ tip_height + 1) }
+    ensures verdicts { OnOk result (VerdictsAscend block.now.verdicts) }
 {
-    check(&link_rules(block, tip, tip_height))?;
-    check(&tx_rules(block))?;
-    check(&id_rules(alloc, block)?)?;
-    check(&[verdict_form(block)])?;
+    check_table(&link_rules(block, tip, tip_height))?;
+    check_table(&tx_rules(block))?;
+    check_table(&id_rules(alloc, block)?)?;
+    check_table(&[verdict_form(block)])?;
     match block.txs.as_slice() {
-        [] => Err(ShapeFault::Broken(Rule::NoCoinbase, None)),
+        [] => Err(ShapeFault::Broken(by_block(Rule::NoCoinbase))),
         [coinbase, ..] => judge_payload(alloc, coinbase, tip_height),
     }
 }
 
-// Refuses with the first rule of a list that is broken.
-fn check(rules: &[Option<Refusal>]) -> Result<(), ShapeFault>
+// Refuses with the first broken rule of a table.
+fn check_table(rules: &[Option<Refusal>]) -> Result<(), ShapeFault>
     ensures { Judges (table.first_broken rules.now) result }
 {
-    for rule in rules {
-        if let Some((rule, tx)) = rule {
-            return Err(ShapeFault::Broken(*rule, *tx));
-        }
+    match check(rules) {
+        Ok(()) => Ok(()),
+        Err(refusal) => Err(ShapeFault::Broken(refusal)),
     }
-    Ok(())
 }
 
-fn of_block(broken: bool, rule: Rule) -> Option<Refusal>
-    ensures { result ≡ table.of_block broken rule }
+// The refusal by a rule that names no transaction.
+fn by_block(rule: Rule) -> Refusal
+    ensures { result ≡ table.by_block rule }
 {
-    if broken { Some((rule, None)) } else { None }
+    Refusal { rule, tx: None }
+}
+
+// The refusal by a rule that names the transaction at this place.
+fn by_tx(place: u32, rule: Rule) -> Refusal
+    ensures { result ≡ table.by_tx place rule }
+{
+    Refusal {
+        rule,
+        tx: Some(place),
+    }
 }
 
 fn of_tx(place: Option<u32>, rule: Rule) -> Option<Refusal>
     ensures { result ≡ table.of_tx place rule }
 {
-    place.map(|tx| (rule, Some(tx)))
+    place.map(|tx| by_tx(tx, rule))
 }
 
 #[tactic(auto, unfolding(crate::specs::Shape::link_rules))]
@@ -73,9 +82,9 @@ fn link_rules(block: &BlockFrame, tip: &Hash256, tip_height: u32) -> [Option<Ref
     ensures { result ≡ table.unnumbered (table.link_rules block.now tip.now tip_height) }
 {
     [
-        of_block(is_zero(&block.hash.0), Rule::ZeroHash),
-        of_block(block.prev != *tip, Rule::NotNext { tip: *tip }),
-        of_block(tip_height == 4_294_967_294, Rule::HeightLimit),
+        when(is_zero(&block.hash.0), by_block(Rule::ZeroHash)),
+        when(block.prev != *tip, by_block(Rule::NotNext { tip: *tip })),
+        when(tip_height == GREATEST_HEIGHT, by_block(Rule::HeightLimit)),
     ]
 }
 
@@ -86,7 +95,7 @@ fn tx_rules(block: &BlockFrame) -> [Option<Refusal>; 2]
 {
     let txs = block.txs.as_slice();
     [
-        of_block(!begins_with_coinbase(txs), Rule::NoCoinbase),
+        when(!begins_with_coinbase(txs), by_block(Rule::NoCoinbase)),
         of_tx(second_coinbase(txs), Rule::SecondCoinbase),
     ]
 }
@@ -101,7 +110,10 @@ fn id_rules(alloc: Global, block: &BlockFrame) -> Result<[Option<Refusal>; 2], M
     let computed = root(alloc, ids)?;
     Ok([
         of_tx(duplicate, Rule::DuplicateTx),
-        of_block(block.merkle != computed, Rule::BadMerkle { computed }),
+        when(
+            block.merkle != computed,
+            by_block(Rule::BadMerkle { computed }),
+        ),
     ])
 }
 
@@ -168,8 +180,8 @@ fn is_in_form(count: usize, from: u32, verdict: &Verdict) -> bool
 {
     from <= verdict.tx
         && (verdict.tx as usize) < count
-        && 1 <= verdict.kind
-        && verdict.kind <= 4
+        && COLLATERAL_KEY <= verdict.kind
+        && verdict.kind <= MEMBERS_KEYS
         && verdict.valid <= 1
 }
 
@@ -196,20 +208,27 @@ fn verdict_form(block: &BlockFrame) -> Option<Refusal>
     ensures { table.unnumbered (table.verdict_rules block.now) ≡ result ∷ [] }
 {
     let position = bad_verdict(block.txs.len(), block.verdicts.as_slice())?;
-    Some((Rule::VerdictForm { position }, None))
+    Some(by_block(Rule::VerdictForm { position }))
 }
 
 #[tactic(auto, unfolding(crate::specs::Shape::is_cb_type))]
 fn is_cb_type(tx: &Tx) -> bool
     ensures { result ≡ table.is_cb_type tx.now }
 {
-    tx.version == 3 && tx.kind == 5
+    tx.version == SPECIAL_VERSION && tx.kind == COINBASE_TX
 }
 
 fn is_next(height: u32, tip_height: u32) -> bool
     ensures { result ≡ (height == tip_height + 1) }
 {
     u64::from(height) == u64::from(tip_height) + 1
+}
+
+// The refusal by a rule on the first transaction.
+fn by_first(rule: Rule) -> ShapeFault
+    ensures { result ≡ ShapeFault.Broken (table.by_tx 0 rule) }
+{
+    ShapeFault::Broken(by_tx(0, rule))
 }
 
 // Judges the first transaction's payload, which must tell the height behind the tip.
@@ -219,7 +238,7 @@ fn judge_payload(alloc: Global, tx: &Tx, tip_height: u32) -> Result<CbTx, ShapeF
     ensures height { IfOk result (λ value. value.height ≡ tip_height + 1) }
 {
     if !is_cb_type(tx) {
-        return Err(ShapeFault::Broken(Rule::CbPayload, Some(0)));
+        return Err(by_first(Rule::CbPayload));
     }
     match read_cb(alloc, tx.payload.as_slice()) {
         Ok(value) => {
@@ -227,15 +246,11 @@ fn judge_payload(alloc: Global, tx: &Tx, tip_height: u32) -> Result<CbTx, ShapeF
                 Ok(value)
             } else {
                 let found = value.height;
-                Err(ShapeFault::Broken(Rule::CbHeight { found }, Some(0)))
+                Err(by_first(Rule::CbHeight { found }))
             }
         }
-        Err(PayloadFault::PayloadVersion { found }) => {
-            Err(ShapeFault::Broken(Rule::CbVersion { found }, Some(0)))
-        }
-        Err(PayloadFault::PayloadForm { .. }) => {
-            Err(ShapeFault::Broken(Rule::CbPayload, Some(0)))
-        }
+        Err(PayloadFault::PayloadVersion { found }) => { Err(by_first(Rule::CbVersion { found })) }
+        Err(PayloadFault::PayloadForm { .. }) => { Err(by_first(Rule::CbPayload)) }
         Err(PayloadFault::Memory) => Err(ShapeFault::Memory),
     }
 }

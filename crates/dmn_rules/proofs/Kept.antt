@@ -16,7 +16,10 @@ use Rattle.dmn_payloads.specs.Scripts.{pay_of}
 use Rattle.dmn_rows.specs.declared.row.MnRow.{MnRow}
 use Rattle.dmn_rows.specs.declared.rule.Rule.{Rule}
 use Rattle.dmn_rows.specs.declared.rule.Rule.TheVariants.{DupOwner, DupOperator, DupAddress, UpDupAddress, UpDupOperator}
-use Rattle.dmn_rows.specs.Rows.{Outputs, has_hash, has_owner, has_operator, has_service, has_collateral, hash_where, put_row}
+use Rattle.dmn_rows.specs.declared.verdict.TheConstants.{OWNER_KEY, OPERATOR_KEY}
+use Rattle.dmn_rows.specs.Row.{ban}
+use Rattle.dmn_rows.specs.Rows.{Outputs, has_hash, has_owner, has_operator, has_service, has_collateral, hash_where, changed, put_row}
+use Rattle.dmn_rows.specs.Signed.{verdict_rules}
 use Rattle.dmn_rows.specs.Distinct.{HasDistinctKeys}
 use Rattle.dmn_rows.proofs.Keys.{same_hash-is}
 use Rattle.dmn_tx.specs.declared.tx.TxOut.{TxOut}
@@ -25,8 +28,8 @@ use Rattle.dmn_rules.specs.declared.facts.Facts.{Facts}
 use Rattle.dmn_rules.specs.declared.provider.Provider.{Provider}
 use Rattle.dmn_rules.specs.declared.provider.Provider.TheVariants.{Register, Service, Registrar, Revoke}
 use Rattle.dmn_rules.specs.Table.{Numbered, unnumbered, first_broken, first_of, some_row}
-use Rattle.dmn_rules.specs.Provider.{Case, is_hash, point_of, script_of, dup_address, up_dup_address, up_dup_operator, form_rules, collateral_rules, key_rules, scripted_rules, service_rules, registrar_rules, revoke_rules, verdict_rules, row_rules, kind_rules, read_rules}
-use Rattle.dmn_rules.specs.Change.{registered, ban, cleared, served, rekeyed, revoked, changed, added, list_after, applied}
+use Rattle.dmn_rules.specs.Provider.{Case, digest_of, is_hash, point_of, replaced_by, script_of, dup_address, up_dup_address, up_dup_operator, form_rules, collateral_rules, key_rules, scripted_rules, service_rules, registrar_rules, revoke_rules, row_rules, kind_rules, read_rules}
+use Rattle.dmn_rules.specs.Change.{registered, cleared, served, rekeyed, revoked, added, list_after, applied}
 use Rattle.dmn_rules.specs.Looking.{case_at, Gives}
 use Rattle.dmn_rules.proofs.Stages.{first_of_append}
 use Rattle.dmn_rules.proofs.Seen.{find-stronger, filter-found, same_collaterals}
@@ -72,10 +75,10 @@ record KeysAreFree (rows : List MnRow) (point : OutPoint) (p : ProReg) : Type 0 
   operator : find (has_operator p.operator) rows ≡ None
   service : find (λ r. has_service p.service r && not (is_hash (hash_where (has_collateral point) rows) r.hash)) rows ≡ None
 
-keys_free : (rows : List MnRow) (point : OutPoint) (p : ProReg) (script : Pay) → first_of (key_rules rows point p script) ≡ None → KeysAreFree rows point p
+keys_free : (rows : List MnRow) (point : OutPoint) (p : ProReg) (script : Pay) → first_of (key_rules rows (replaced_by rows point) p script) ≡ None → KeysAreFree rows point p
 unfolding key_rules dup_address
 keys_free rows point p script none =
-    let all : NoneBroken (unnumbered (key_rules rows point p script)) = none_broken (unnumbered (key_rules rows point p script)) none in
+    let all : NoneBroken (unnumbered (key_rules rows (replaced_by rows point) p script)) = none_broken (unnumbered (key_rules rows (replaced_by rows point) p script)) none in
     record {
       owner = nobody (has_owner p.owner) (λ h. DupOwner h) rows all.1.0;
       operator = nobody (has_operator p.operator) (λ h. DupOperator h) rows all.1.1.0;
@@ -103,7 +106,7 @@ keeps_added facts p None rows keys none = keys
 keeps_added facts p (Some script) rows keys none =
     let point = point_of facts.id p in
     HasDistinctKeys-put_row (registered facts.height facts.id p script) _ (HasDistinctKeys-filter (λ r. not (has_collateral point r)) rows keys)
-    (new_registration facts.height facts.id p script rows keys (keys_free rows point p script (none_append (key_rules rows point p script) _ none).0))
+    (new_registration facts.height facts.id p script rows keys (keys_free rows point p script (none_append (key_rules rows (replaced_by rows point) p script) _ none).0))
 
 -- ---- a row that changes
 
@@ -159,16 +162,16 @@ keeps_revoked height p row rows keys found =
       | false ↦ HasDistinctKeys-put_row (with_reason p (cleared row)) rows keys (record { owner = own.owner; operator = nowhere; service = nowhere; collateral = own.collateral })
     ]
 
-address_free : (port : ℕ) (rows : List MnRow) (up : UpServ) (row : MnRow) → first_of (service_rules port rows up row) ≡ None → up_dup_address rows up ≡ None
+address_free : (port : ℕ) (rows : List MnRow) (up : UpServ) (payout : Pay) (row : MnRow) → first_of (service_rules port rows up payout row) ≡ None → up_dup_address rows up ≡ None
 unfolding service_rules
-address_free port rows up row none =
-    let all : NoneBroken (unnumbered (service_rules port rows up row)) = none_broken (unnumbered (service_rules port rows up row)) none in
+address_free port rows up payout row none =
+    let all : NoneBroken (unnumbered (service_rules port rows up payout row)) = none_broken (unnumbered (service_rules port rows up payout row)) none in
     all.1.0
 
-operator_free : (rows : List MnRow) (up : UpReg) (row : MnRow) → first_of (registrar_rules rows up row) ≡ None → up_dup_operator rows up ≡ None
+operator_free : (rows : List MnRow) (up : UpReg) (payout : Pay) (row : MnRow) → first_of (registrar_rules rows up payout row) ≡ None → up_dup_operator rows up ≡ None
 unfolding registrar_rules
-operator_free rows up row none =
-    let all : NoneBroken (unnumbered (registrar_rules rows up row)) = none_broken (unnumbered (registrar_rules rows up row)) none in
+operator_free rows up payout row none =
+    let all : NoneBroken (unnumbered (registrar_rules rows up payout row)) = none_broken (unnumbered (registrar_rules rows up payout row)) none in
     all.1.1.1.1.0
 
 -- ---- any of the four
@@ -180,16 +183,16 @@ changes rules change rows keys (Some row) each none = each row refl none
 keeps_kind : (c : Case) (read : Provider) → HasDistinctKeys c.rows → first_of (kind_rules c read) ≡ None → HasDistinctKeys (list_after c.facts.height c.facts.id c.outs c.outputs c.rows read)
 keeps_kind c (Register p) keys none =
     let script = script_of c.outs c.outputs p in
-    let behind = none_append (form_rules c.facts.port p) (collateral_rules c.outs c.outputs p ++ scripted_rules c.facts c.rows p script) none in
+    let behind = none_append (form_rules c.facts.port p (pay_of p.payout)) (collateral_rules c.outs c.outputs p ++ scripted_rules c.facts c.rows p script) none in
     keeps_added c.facts p script c.rows keys (none_append (collateral_rules c.outs c.outputs p) (scripted_rules c.facts c.rows p script) behind.1).1
 keeps_kind c (Service up) keys none =
-    changes (λ row. service_rules c.facts.port c.rows up row ++ verdict_rules c.facts.verdict 3 row.operator) (served c.facts.height up) c.rows keys (find (has_hash up.pro_tx) c.rows)
-    (λ row found free. keeps_served c.facts.height up row c.rows keys found (address_free c.facts.port c.rows up row (none_append (service_rules c.facts.port c.rows up row) _ free).0)) none
+    changes (λ row. service_rules c.facts.port c.rows up (pay_of up.payout) row ++ verdict_rules c.facts.verdict OPERATOR_KEY (digest_of row.operator)) (served c.facts.height up) c.rows keys (find (has_hash up.pro_tx) c.rows)
+    (λ row found free. keeps_served c.facts.height up row c.rows keys found (address_free c.facts.port c.rows up (pay_of up.payout) row (none_append (service_rules c.facts.port c.rows up (pay_of up.payout) row) _ free).0)) none
 keeps_kind c (Registrar up) keys none =
-    changes (λ row. registrar_rules c.rows up row ++ verdict_rules c.facts.verdict 2 row.owner) (rekeyed c.facts.height up) c.rows keys (find (has_hash up.pro_tx) c.rows)
-    (λ row found free. keeps_rekeyed c.facts.height up row c.rows keys found (operator_free c.rows up row (none_append (registrar_rules c.rows up row) _ free).0)) none
+    changes (λ row. registrar_rules c.rows up (pay_of up.payout) row ++ verdict_rules c.facts.verdict OWNER_KEY (digest_of row.owner)) (rekeyed c.facts.height up) c.rows keys (find (has_hash up.pro_tx) c.rows)
+    (λ row found free. keeps_rekeyed c.facts.height up row c.rows keys found (operator_free c.rows up (pay_of up.payout) row (none_append (registrar_rules c.rows up (pay_of up.payout) row) _ free).0)) none
 keeps_kind c (Revoke p) keys none =
-    changes (λ row. revoke_rules p row ++ verdict_rules c.facts.verdict 3 row.operator) (revoked c.facts.height p) c.rows keys (find (has_hash p.pro_tx) c.rows)
+    changes (λ row. revoke_rules p row ++ verdict_rules c.facts.verdict OPERATOR_KEY (digest_of row.operator)) (revoked c.facts.height p) c.rows keys (find (has_hash p.pro_tx) c.rows)
     (λ row found free. keeps_revoked c.facts.height p row c.rows keys found) none
 
 pub keeps_keys : (c : Case) (read : Provider) → HasDistinctKeys c.rows → first_of (read_rules c read) ≡ None → HasDistinctKeys (list_after c.facts.height c.facts.id c.outs c.outputs c.rows read)

@@ -1,161 +1,100 @@
--- The first broken rule of a table is the one with the least number.
-use Rattle.std.proofs.Common.{◌≡◌, ℕ, ◌<◌, ◌≤◌, Bool, true, false, ◌&&◌, List, [], ◌∷◌, ◌++◌, Some, None, refl, sym, ◌∙◌, inl, inr, arith, ltb, leb, if◌then◌else◌, slice_get}
+-- The first broken rule of a transaction is the one with the least number.
+use Rattle.std.proofs.Common.{ℕ, true, false, List, Some, None, refl, arith, if◌then◌else◌, slice_get}
 use Rattle.std.specs.declared.option.Option.{Option}
-use Rattle.std.proofs.lemmas.Bool.{and_parts, and_from, ltb-true, leb-true, lt-ltb, le-leb}
-use Rattle.dmn_bytes.specs.declared.points.OutPoint.{OutPoint}
+use Rattle.dmn_bytes.specs.declared.hash.Hash256.{Hash256}
 use Rattle.dmn_bytes.specs.declared.points.Pay.{Pay}
 use Rattle.dmn_payloads.specs.declared.payloads.ProReg.{ProReg}
 use Rattle.dmn_payloads.specs.declared.payloads.UpServ.{UpServ}
 use Rattle.dmn_payloads.specs.declared.payloads.UpReg.{UpReg}
 use Rattle.dmn_payloads.specs.declared.payloads.Revoke.{Revoke as Revocation}
 use Rattle.dmn_rows.specs.declared.profile.Profile.{Profile}
-use Rattle.dmn_rows.specs.declared.rule.Rule.{Rule}
+use Rattle.dmn_rows.specs.declared.rule.Rule.TheVariants as rules
 use Rattle.dmn_rows.specs.declared.verdict.Verdict.{Verdict}
 use Rattle.dmn_rows.specs.declared.row.MnRow.{MnRow}
+use Rattle.dmn_rows.specs.Order.{TellsLeast}
 use Rattle.dmn_rows.specs.Rows.{Outputs, output_at}
+use Rattle.dmn_rows.specs.Rule.{rule_number}
+use Rattle.dmn_rows.proofs.Order.{Lies, Lies_lower, Lies_upper, Lies-append, Lies_unless, tells_when, tells_map, first_tells_least}
+use Rattle.dmn_rows.proofs.Verdicts.{lies_verdict}
 use Rattle.dmn_tx.specs.declared.tx.Tx.{Tx}
 use Rattle.dmn_tx.specs.declared.tx.TxOut.{TxOut}
 use Rattle.dmn_rules.specs.declared.facts.Facts.{Facts}
 use Rattle.dmn_rules.specs.declared.provider.Provider.{Provider}
 use Rattle.dmn_rules.specs.declared.provider.Provider.TheVariants.{Register, Service, Registrar, Revoke}
-use Rattle.dmn_rules.specs.Table.{Numbered, unnumbered, first_broken, first_of}
+use Rattle.dmn_rules.specs.Table.{Numbered}
 use Rattle.dmn_rules.specs.Payload.{payload_rules, provider_of}
-use Rattle.dmn_rules.specs.Provider.{Case, is_own, form_rules, own_rules, external_rules, collateral_rules, key_rules, scripted_rules, verdict_rules, service_rules, registrar_rules, revoke_rules, row_rules, kind_rules}
+use Rattle.dmn_rules.specs.Provider.{Case, is_own, sig_presence, dup_address, up_dup_address, up_dup_operator, form_rules, output_rules, own_rules, external_rules, collateral_rules, key_rules, scripted_rules, service_rules, registrar_rules, revoke_rules, row_rules, kind_rules}
 use Rattle.dmn_rules.specs.Defs.{rules_of, rules_within, judge_of, case_of}
-use Rattle.dmn_rules.specs.Order.{Has, IsLeast}
 
--- the numbers ascend, from above `low` to `high`
-abbrev lies : ℕ → ℕ → Numbered → Bool
-lies low high [] = leb low high
-lies low high (e ∷ rest) = ltb low e.0 && lies e.0 high rest
+-- the table's numbers are those of its rules, and ascend
+abbrev Numbers : ℕ → ℕ → Numbered → Type 0
+Numbers = Lies rule_number
 
-lies_lower : (low mid high : ℕ) (xs : Numbered) → low ≤ mid → lies mid high xs ≡ true → lies low high xs ≡ true
-lies_lower low mid high [] le h = le-leb low high (omega (arith, leb-true mid high h))
-lies_lower low mid high (e ∷ rest) le h =
-    let parts = and_parts (ltb mid e.0) (lies e.0 high rest) h in
-    and_from (ltb low e.0) (lies e.0 high rest) (lt-ltb low e.0 (omega (arith, ltb-true mid e.0 parts.0))) parts.1
+lies_form : (port : ℕ) (p : ProReg) (payout : Pay) → Numbers 23 37 (form_rules port p payout)
+unfolding form_rules sig_presence rule_number
+lies_form port p payout = record { holds = refl; told = ((tells_when rule_number _ rules.RegType), ((tells_when rule_number _ rules.RegMode), ((tells_when rule_number _ rules.NullKey), ((tells_when rule_number _ rules.PayoutForm), ((tells_when rule_number _ rules.PayoutKey), ((tells_when rule_number _ rules.RewardRange), ((tells_when rule_number _ rules.AddressForm), ((tells_when rule_number _ rules.SigPresence), tt)))))))) }
 
-lies-append : (low mid high : ℕ) (xs ys : Numbered) → lies low mid xs ≡ true → lies mid high ys ≡ true → lies low high (xs ++ ys) ≡ true
-lies-append low mid high [] ys h k = lies_lower low mid high ys (leb-true low mid h) k
-lies-append low mid high (e ∷ rest) ys h k =
-    let parts = and_parts (ltb low e.0) (lies e.0 mid rest) h in
-    and_from (ltb low e.0) (lies e.0 high (rest ++ ys)) parts.0 (lies-append e.0 mid high rest ys parts.1 k)
+lies_output : (value : ℕ) (script : Pay) → Numbers 38 40 (output_rules value script)
+unfolding output_rules rule_number
+lies_output value script = record { holds = refl; told = ((tells_when rule_number _ rules.CollateralValue), ((tells_when rule_number _ rules.CollateralScript), tt)) }
 
-record Lies (low high : ℕ) (xs : Numbered) : Type 0 where
-  holds : lies low high xs ≡ true
+lies_own : (o : Option TxOut) → Numbers 37 42 (own_rules o)
+unfolding rule_number
+lies_own None = record { holds = refl; told = (refl, tt) }
+lies_own (Some out) = Lies_lower rule_number 37 38 42 _ (omega arith) (Lies_upper rule_number 38 40 42 _ (omega arith) (lies_output out.value _))
 
-Lies_lower : (low mid high : ℕ) (xs : Numbered) → low ≤ mid → Lies mid high xs → Lies low high xs
-Lies_lower low mid high xs le h = record { holds = lies_lower low mid high xs le h.holds }
+lies_external : (o : Option Pay) → Numbers 37 42 (external_rules o)
+unfolding rule_number
+lies_external None = record { holds = refl; told = (refl, tt) }
+lies_external (Some script) = record { holds = refl; told = (tells_when rule_number _ rules.CollateralKeyless, tt) }
 
-Lies-append : (low mid high : ℕ) (xs ys : Numbered) → Lies low mid xs → Lies mid high ys → Lies low high (xs ++ ys)
-Lies-append low mid high xs ys h k = record { holds = lies-append low mid high xs ys h.holds k.holds }
-
-lies-verdict : (verdict : Option Verdict) (kind : ℕ) (key : List ℕ) → Lies 62 75 (verdict_rules verdict kind key)
-unfolding verdict_rules
-lies-verdict verdict kind key = record { holds = refl }
-
-lies-form : (port : ℕ) (p : ProReg) → Lies 23 37 (form_rules port p)
-unfolding form_rules
-lies-form port p = record { holds = refl }
-
-lies-own : (o : Option TxOut) → Lies 37 42 (own_rules o)
-lies-own None = record { holds = refl }
-lies-own (Some out) = record { holds = refl }
-
-lies-external : (o : Option Pay) → Lies 37 42 (external_rules o)
-lies-external None = record { holds = refl }
-lies-external (Some script) = record { holds = refl }
-
-lies-collateral : (outs : List TxOut) (outputs : Outputs) (p : ProReg) → Lies 37 42 (collateral_rules outs outputs p)
+lies_collateral : (outs : List TxOut) (outputs : Outputs) (p : ProReg) → Numbers 37 42 (collateral_rules outs outputs p)
 unfolding collateral_rules
-lies-collateral outs outputs p = elim (is_own p) as (λ b. Lies 37 42 (if b then own_rules (slice_get outs p.collateral.index) else external_rules (output_at outputs p.collateral))) [ true ↦ lies-own _ | false ↦ lies-external _ ]
+lies_collateral outs outputs p = elim (is_own p) as (λ b. Numbers 37 42 (if b then own_rules (slice_get outs p.collateral.index) else external_rules (output_at outputs p.collateral))) [ true ↦ lies_own _ | false ↦ lies_external _ ]
 
-lies_unless : (b : Bool) (xs : Numbered) → Lies 62 75 xs → Lies 46 75 (if b then [] else xs)
-lies_unless true xs h = record { holds = refl }
-lies_unless false xs h = Lies_lower 46 62 75 xs (omega arith) h
+lies_key : (rows : List MnRow) (replaced : Option Hash256) (p : ProReg) (script : Pay) → Numbers 42 46 (key_rules rows replaced p script)
+unfolding key_rules dup_address rule_number
+lies_key rows replaced p script = record { holds = refl; told = ((tells_when rule_number _ rules.CollateralKey), ((tells_map rule_number (λ h. rules.DupOwner h) _ (λ h. refl) _), ((tells_map rule_number (λ h. rules.DupOperator h) _ (λ h. refl) _), ((tells_map rule_number (λ h. rules.DupAddress h) _ (λ h. refl) _), tt)))) }
 
-lies-key : (rows : List MnRow) (point : OutPoint) (p : ProReg) (script : Pay) → Lies 42 46 (key_rules rows point p script)
-unfolding key_rules
-lies-key rows point p script = record { holds = refl }
+lies_scripted : (facts : Facts) (rows : List MnRow) (p : ProReg) (o : Option Pay) → Numbers 42 75 (scripted_rules facts rows p o)
+lies_scripted facts rows p None = record { holds = refl; told = tt }
+lies_scripted facts rows p (Some script) = Lies-append rule_number 42 46 75 _ _ (lies_key rows _ p script) (Lies_unless rule_number (is_own p) 46 62 75 _ (omega arith) (omega arith) (lies_verdict facts.verdict _ _))
 
-lies-scripted : (facts : Facts) (rows : List MnRow) (p : ProReg) (o : Option Pay) → Lies 42 75 (scripted_rules facts rows p o)
-lies-scripted facts rows p None = record { holds = refl }
-lies-scripted facts rows p (Some script) = Lies-append 42 46 75 _ _ (lies-key rows _ p script) (lies_unless (is_own p) _ (lies-verdict facts.verdict _ _))
+lies_service : (port : ℕ) (rows : List MnRow) (up : UpServ) (payout : Pay) (row : MnRow) → Numbers 23 55 (service_rules port rows up payout row)
+unfolding service_rules up_dup_address rule_number
+lies_service port rows up payout row = record { holds = refl; told = ((tells_when rule_number _ rules.UpAddress), ((tells_map rule_number (λ h. rules.UpDupAddress h) _ (λ h. refl) _), ((tells_when rule_number _ rules.OperatorPayoutForm), ((tells_when rule_number _ rules.OperatorPayoutUnasked), ((tells_when rule_number _ rules.NoOperator), tt))))) }
 
-lies-service : (port : ℕ) (rows : List MnRow) (up : UpServ) (row : MnRow) → Lies 23 55 (service_rules port rows up row)
-unfolding service_rules
-lies-service port rows up row = record { holds = refl }
+lies_registrar : (rows : List MnRow) (up : UpReg) (payout : Pay) (row : MnRow) → Numbers 23 61 (registrar_rules rows up payout row)
+unfolding registrar_rules up_dup_operator rule_number
+lies_registrar rows up payout row = record { holds = refl; told = ((tells_when rule_number _ rules.UpMode), ((tells_when rule_number _ rules.UpNullKey), ((tells_when rule_number _ rules.UpPayoutForm), ((tells_when rule_number _ rules.UpPayoutKey), ((tells_map rule_number (λ h. rules.UpDupOperator h) _ (λ h. refl) _), ((tells_when rule_number _ rules.UpCollateralKey), tt)))))) }
 
-lies-registrar : (rows : List MnRow) (up : UpReg) (row : MnRow) → Lies 23 61 (registrar_rules rows up row)
-unfolding registrar_rules
-lies-registrar rows up row = record { holds = refl }
+lies_revoke : (p : Revocation) (row : MnRow) → Numbers 23 62 (revoke_rules p row)
+unfolding revoke_rules rule_number
+lies_revoke p row = record { holds = refl; told = ((tells_when rule_number _ rules.NoOperator), ((tells_when rule_number _ rules.RevokeReason), tt)) }
 
-lies-revoke : (p : Revocation) (row : MnRow) → Lies 23 62 (revoke_rules p row)
-unfolding revoke_rules
-lies-revoke p row = record { holds = refl }
+lies_row : (rules : MnRow → Numbered) → ((row : MnRow) → Numbers 23 75 (rules row)) → (o : Option MnRow) → Numbers 23 75 (row_rules rules o)
+unfolding rule_number
+lies_row rules each None = record { holds = refl; told = (refl, tt) }
+lies_row rules each (Some row) = each row
 
-lies-row : (rules : MnRow → Numbered) → ((row : MnRow) → Lies 23 75 (rules row)) → (o : Option MnRow) → Lies 23 75 (row_rules rules o)
-lies-row rules each None = record { holds = refl }
-lies-row rules each (Some row) = each row
+lies_kind : (c : Case) (read : Provider) → Numbers 23 75 (kind_rules c read)
+lies_kind c (Register p) = Lies-append rule_number 23 37 75 _ _ (lies_form c.facts.port p _) (Lies-append rule_number 37 42 75 _ _ (lies_collateral c.outs c.outputs p) (lies_scripted c.facts c.rows p _))
+lies_kind c (Service up) = lies_row _ (λ row. Lies-append rule_number 23 55 75 _ _ (lies_service c.facts.port c.rows up _ row) (Lies_lower rule_number 55 62 75 _ (omega arith) (lies_verdict c.facts.verdict _ _))) _
+lies_kind c (Registrar up) = lies_row _ (λ row. Lies-append rule_number 23 61 75 _ _ (lies_registrar c.rows up _ row) (Lies_lower rule_number 61 62 75 _ (omega arith) (lies_verdict c.facts.verdict _ _))) _
+lies_kind c (Revoke p) = lies_row _ (λ row. Lies-append rule_number 23 62 75 _ _ (lies_revoke p row) (lies_verdict c.facts.verdict _ _)) _
 
-lies-kind : (c : Case) (read : Provider) → Lies 23 75 (kind_rules c read)
-lies-kind c (Register p) = Lies-append 23 37 75 _ _ (lies-form c.facts.port p) (Lies-append 37 42 75 _ _ (lies-collateral c.outs c.outputs p) (lies-scripted c.facts c.rows p _))
-lies-kind c (Service up) = lies-row _ (λ row. Lies-append 23 55 75 _ _ (lies-service c.facts.port c.rows up row) (Lies_lower 55 62 75 _ (omega arith) (lies-verdict c.facts.verdict _ _))) _
-lies-kind c (Registrar up) = lies-row _ (λ row. Lies-append 23 61 75 _ _ (lies-registrar c.rows up row) (Lies_lower 61 62 75 _ (omega arith) (lies-verdict c.facts.verdict _ _))) _
-lies-kind c (Revoke p) = lies-row _ (λ row. Lies-append 23 62 75 _ _ (lies-revoke p row) (lies-verdict c.facts.verdict _ _)) _
+lies_within : (c : Case) (o : Option Provider) → Numbers 22 75 (rules_within c o)
+unfolding rule_number
+lies_within c None = record { holds = refl; told = tt }
+lies_within c (Some read) = let kind = lies_kind c read in record { holds = kind.holds; told = (tells_when rule_number _ rules.InputsHash, kind.told) }
 
-lies-within : (c : Case) (o : Option Provider) → Lies 22 75 (rules_within c o)
-lies-within c None = record { holds = refl }
-lies-within c (Some read) = record { holds = (lies-kind c read).holds }
+lies_payload : (kind : ℕ) (payload : List ℕ) → Numbers 19 22 (payload_rules kind payload)
+unfolding payload_rules rule_number
+lies_payload kind payload = record { holds = refl; told = ((tells_when rule_number _ (rules.UnknownType kind)), ((tells_map rule_number (λ h. rules.PayloadVersion h) _ (λ h. refl) _), ((tells_map rule_number (λ h. rules.PayloadForm h) _ (λ h. refl) _), tt))) }
 
-lies-payload : (kind : ℕ) (payload : List ℕ) → Lies 19 22 (payload_rules kind payload)
-unfolding payload_rules
-lies-payload kind payload = record { holds = refl }
+lies_all : (profile : Profile) (rows : List MnRow) (outputs : Outputs) (height : ℕ) (tx : Tx) (verdict : Option Verdict) → Numbers 19 75 (rules_of profile rows outputs height tx verdict)
+lies_all profile rows outputs height tx verdict = Lies-append rule_number 19 22 75 _ _ (lies_payload tx.kind tx.payload) (lies_within (case_of profile rows outputs height tx verdict) (provider_of tx.kind tx.payload))
 
-lies-all : (profile : Profile) (rows : List MnRow) (outputs : Outputs) (height : ℕ) (tx : Tx) (verdict : Option Verdict) → Lies 19 75 (rules_of profile rows outputs height tx verdict)
-lies-all profile rows outputs height tx verdict = Lies-append 19 22 75 _ _ (lies-payload tx.kind tx.payload) (lies-within (case_of profile rows outputs height tx verdict) (provider_of tx.kind tx.payload))
-
--- every number of rules that ascend is above the lower end
-above : (low high : ℕ) (xs : Numbered) → lies low high xs ≡ true → (n : ℕ) (rule : Rule) → Has xs n rule → low < n
-above low high [] h n rule has = absurd has
-above low high (e ∷ rest) h n rule has =
-    let parts = and_parts (ltb low e.0) (lies e.0 high rest) h in
-    let first : low < e.0 = ltb-true low e.0 parts.0 in
-    elim has [ inl here ↦ omega (arith, here.0) | inr later ↦ omega (arith, above e.0 high rest parts.1 n rule later) ]
-
-IsLeast-first : (low high : ℕ) (xs : Numbered) (rule : Rule) → lies low high xs ≡ true → first_of xs ≡ Some rule → IsLeast xs rule
-IsLeast-first low high [] rule h first = cc
-IsLeast-first low high (e ∷ rest) rule h first = go (λ found. IsLeast-first e.0 high rest rule parts.1 found) e.1 refl first
-  where
-    parts : (ltb low e.0 ≡ true) × (lies e.0 high rest ≡ true)
-    parts = and_parts (ltb low e.0) (lies e.0 high rest) h
-
-    go : (first_of rest ≡ Some rule → IsLeast rest rule) → (o : Option Rule) → e.1 ≡ o → first_broken (o ∷ unnumbered rest) ≡ Some rule → IsLeast (e ∷ rest) rule
-    go later (Some r) is found = record {
-      number = e.0;
-      has = inl (refl, is ∙ found);
-      least = λ n q has. elim has [ inl here ↦ omega (arith, here.0) | inr after ↦ omega (arith, above e.0 high rest parts.1 n q after) ];
-    }
-    go later None is found =
-        let behind = later found in
-        record {
-          number = behind.number;
-          has = inr behind.has;
-          least = λ n q has. elim has [ inl here ↦ let no : None ≡ Some q = sym is ∙ here.1 in cc | inr after ↦ behind.least n q after ];
-        }
-
-none_broken : (xs : Numbered) → first_of xs ≡ None → (n : ℕ) (rule : Rule) → Has xs n rule → ⊥
-none_broken [] none n rule has = has
-none_broken (e ∷ rest) none n rule has = go (λ found after. none_broken rest found n rule after) e.1 refl none
-  where
-    go : (first_of rest ≡ None → Has rest n rule → ⊥) → (o : Option Rule) → e.1 ≡ o → first_broken (o ∷ unnumbered rest) ≡ None → ⊥
-    go later (Some r) is found = cc
-    go later None is found = elim has [ inl here ↦ let no : None ≡ Some rule = sym is ∙ here.1 in cc | inr after ↦ later found after ]
-
-pub IsLeast-judge : (profile : Profile) (rows : List MnRow) (outputs : Outputs) (height : ℕ) (tx : Tx) (verdict : Option Verdict) (rule : Rule) → judge_of profile rows outputs height tx verdict ≡ Some rule → IsLeast (rules_of profile rows outputs height tx verdict) rule
+pub judge_tells_least : (profile : Profile) (rows : List MnRow) (outputs : Outputs) (height : ℕ) (tx : Tx) (verdict : Option Verdict) → TellsLeast rule_number (rules_of profile rows outputs height tx verdict) (judge_of profile rows outputs height tx verdict)
 unfolding judge_of
-IsLeast-judge profile rows outputs height tx verdict rule first = IsLeast-first 19 75 _ rule (lies-all profile rows outputs height tx verdict).holds first
-
-pub judge-none : (profile : Profile) (rows : List MnRow) (outputs : Outputs) (height : ℕ) (tx : Tx) (verdict : Option Verdict) (n : ℕ) (rule : Rule) → judge_of profile rows outputs height tx verdict ≡ None → Has (rules_of profile rows outputs height tx verdict) n rule → ⊥
-unfolding judge_of
-judge-none profile rows outputs height tx verdict n rule none has = none_broken (rules_of profile rows outputs height tx verdict) none n rule has
+judge_tells_least profile rows outputs height tx verdict = first_tells_least rule_number 19 75 _ (lies_all profile rows outputs height tx verdict)

@@ -4,4 +4,6 @@ pub mod Forms
 pub mod Least
 pub mod Puts
 pub mod Distinct
+pub mod Effects
+pub mod Other
 pub mod Kept

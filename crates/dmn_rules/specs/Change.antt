@@ -1,5 +1,6 @@
 -- What provider transactions do to rows and to the list (DIP-0003).
 use Rattle.std.specs.Prelude.{ℕ, ◌==◌, not, List, Option, Some, None, find, filter, replicate, if◌then◌else◌}
+use Rattle.std.specs.Option.{option_map}
 use Rattle.std.specs.Str.{bytes_eq}
 use Rattle.dmn_bytes.specs.declared.hash.Hash256.{Hash256}
 use Rattle.dmn_bytes.specs.declared.points.Pay.{Pay}
@@ -9,13 +10,14 @@ use Rattle.dmn_payloads.specs.declared.payloads.UpReg.{UpReg}
 use Rattle.dmn_payloads.specs.declared.payloads.Revoke.{Revoke as Revocation}
 use Rattle.dmn_payloads.specs.Scripts.{pay_of}
 use Rattle.dmn_rows.specs.declared.row.MnRow.{MnRow}
-use Rattle.dmn_rows.specs.Rows.{Outputs, no_service, has_hash, has_collateral, put_row}
+use Rattle.dmn_rows.specs.Row.{ban}
+use Rattle.dmn_rows.specs.Rows.{Outputs, no_service, has_hash, has_collateral, changed, put_row}
 use Rattle.dmn_tx.specs.declared.tx.TxOut.{TxOut}
 use Rattle.dmn_rules.specs.declared.effect.Effect.{Effect}
 use Rattle.dmn_rules.specs.declared.effect.Effect.TheVariants.{Register as Registers, Update}
 use Rattle.dmn_rules.specs.declared.provider.Provider.{Provider}
 use Rattle.dmn_rules.specs.declared.provider.Provider.TheVariants.{Register, Service, Registrar, Revoke}
-use Rattle.dmn_rules.specs.Provider.{is_hash, point_of, script_of}
+use Rattle.dmn_rules.specs.Provider.{is_hash, point_of, replaced_by, script_of}
 
 -- a script that pays to none
 abbrev pub no_pay : Pay
@@ -44,10 +46,6 @@ registered height id p script = record {
   script = script;
 }
 
--- banning sets the banned height where it is 0
-abbrev pub ban : ℕ → MnRow → MnRow
-ban height row = if row.banned == 0 then record row { banned = height } else row
-
 -- the operator's fields are cleared
 abbrev pub cleared : MnRow → MnRow
 cleared row = record row { operator = replicate 48 0; service = record { address = replicate 16 0; port = 0 }; operator_payout = no_pay; reason = 0 }
@@ -68,11 +66,6 @@ rekeyed height up row =
 unfoldable pub revoked : ℕ → Revocation → MnRow → MnRow
 revoked height p row = let banned = ban height (cleared row) in record banned { reason = p.reason }
 
--- the list with a row changed, if it is there
-abbrev pub changed : (MnRow → MnRow) → Option MnRow → List MnRow → List MnRow
-changed change None rows = rows
-changed change (Some row) rows = put_row (change row) rows
-
 -- The list with a registration's row, once the row with its collateral is removed. Where there is a row of its hash,
 -- the new one takes its place.
 abbrev pub added : ℕ → Hash256 → ProReg → Option Pay → List MnRow → List MnRow
@@ -85,6 +78,19 @@ list_after height id outs outputs rows (Register p) = added height id p (script_
 list_after height id outs outputs rows (Service up) = changed (served height up) (find (has_hash up.pro_tx) rows) rows
 list_after height id outs outputs rows (Registrar up) = changed (rekeyed height up) (find (has_hash up.pro_tx) rows) rows
 list_after height id outs outputs rows (Revoke p) = changed (revoked height p) (find (has_hash p.pro_tx) rows) rows
+
+-- the row as it is kept behind a block
+abbrev pub stored : ℕ → MnRow → MnRow
+stored height row = record row { penalty_at = height }
+
+-- what is told of an accepted transaction of this id and with these outputs, whose payload was read: a registration
+-- adds its row and replaces the one whose collateral it names; any other transaction changes the row that it names
+abbrev pub told : ℕ → Hash256 → List TxOut → Outputs → List MnRow → Provider → Option Effect
+told height id outs outputs rows (Register p) =
+    option_map (λ script. Registers (stored height (registered height id p script)) (replaced_by rows (point_of id p))) (script_of outs outputs p)
+told height id outs outputs rows (Service up) = option_map (λ row. Update (stored height (served height up row))) (find (has_hash up.pro_tx) rows)
+told height id outs outputs rows (Registrar up) = option_map (λ row. Update (stored height (rekeyed height up row))) (find (has_hash up.pro_tx) rows)
+told height id outs outputs rows (Revoke p) = option_map (λ row. Update (stored height (revoked height p row))) (find (has_hash p.pro_tx) rows)
 
 -- what an effect does to stored rows
 abbrev pub applied : Effect → List MnRow → List MnRow

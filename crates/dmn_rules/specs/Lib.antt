@@ -3,5 +3,4 @@ pub mod Payload
 pub mod Provider
 pub mod Change
 pub mod Table
-pub mod Order
 pub mod Looking

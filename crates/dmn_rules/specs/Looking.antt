@@ -12,7 +12,7 @@ use Rattle.dmn_rules.specs.declared.facts.Facts.{Facts}
 use Rattle.dmn_rules.specs.declared.fault.JudgeFault.{JudgeFault}
 use Rattle.dmn_rules.specs.declared.fault.JudgeFault.TheVariants as faults
 use Rattle.dmn_rules.specs.declared.provider.Provider.{Provider}
-use Rattle.dmn_rules.specs.Change.{applied, list_after}
+use Rattle.dmn_rules.specs.Change.{applied, list_after, told}
 use Rattle.dmn_rules.specs.Provider.{Case}
 
 -- the hash, unless the test holds of it
@@ -27,6 +27,10 @@ case_at facts stored outputs outs = record { facts = facts; rows = plain_rows fa
 -- applied to the stored rows, the effect gives the list after the transaction
 abbrev pub Gives : Case → List MnRow → Provider → Effect → Type 0
 Gives c stored read effect = plain_rows c.facts.height (applied effect stored) ≡ list_after c.facts.height c.facts.id c.outs c.outputs c.rows read
+
+-- and this is what is told of the transaction
+abbrev pub IsTold : Case → Provider → Effect → Type 0
+IsTold c read effect = told c.facts.height c.facts.id c.outs c.outputs c.rows read ≡ Some effect
 
 -- the rule that a fault of a payload breaks
 abbrev pub judge_fault : PayloadFault → JudgeFault

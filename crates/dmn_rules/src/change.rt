@@ -1,25 +1,25 @@
 //! What the transactions do to rows.
 
 ghost use Rattle.std.specs.Prelude.{◌≡◌};
-ghost use Rattle.dmn_rows.specs.Row.{plain};
+ghost use Rattle.dmn_payloads.specs.Scripts.{pay_of};
 ghost use Rattle.dmn_rules.specs.Change as spec;
 
-use crate::checks::{no_service, point_of};
+use crate::checks::point_of;
 use crate::facts::Facts;
 use dmn_bytes::{Hash256, Pay, Service};
-use dmn_payloads::{ProReg, Revoke, UpReg, UpServ, script_kind};
-use dmn_rows::MnRow;
+use dmn_payloads::{ProReg, Revoke, UpReg, UpServ};
+use dmn_rows::{MnRow, ban, no_service};
 
 const NO_PAY: Pay = Pay {
     kind: 0,
     hash: [0; 20],
 };
 
-/// The row of a registration.
+/// The row of a registration, by what its payout and its collateral pay to.
 #[tactic(auto, unfolding(crate::specs::Change::registered))]
-pub fn registered(facts: &Facts, p: &ProReg, script: &Pay) -> MnRow
-    ensures row { result ≡ spec.registered facts.now.height facts.now.id p.now script.now }
-    ensures plain { result.penalty_at ≡ 0 }
+pub fn registered(facts: &Facts, p: &ProReg, payout: &Pay, script: &Pay) -> MnRow
+    requires { payout.now ≡ pay_of p.now.payout }
+    ensures { result ≡ spec.registered facts.now.height facts.now.id p.now script.now }
 {
     MnRow {
         hash: facts.id,
@@ -39,7 +39,7 @@ pub fn registered(facts: &Facts, p: &ProReg, script: &Pay) -> MnRow
         operator: p.operator,
         voting: p.voting,
         service: p.service,
-        payout: script_kind(p.payout.as_slice()),
+        payout: *payout,
         operator_payout: NO_PAY,
         reward: p.reward,
         collateral: point_of(&facts.id, p),
@@ -47,15 +47,15 @@ pub fn registered(facts: &Facts, p: &ProReg, script: &Pay) -> MnRow
     }
 }
 
-/// The row with the service and the operator's payout of the payload; a banned one is revived.
+/// The row with the service of the payload and what its payout pays to; a banned one is revived.
 #[tactic(auto, unfolding(crate::specs::Change::served))]
-pub fn served(height: u32, up: &UpServ, row: &MnRow) -> MnRow
-    ensures row { result ≡ spec.served height up.now row.now }
-    ensures plain { result.penalty_at ≡ row.now.penalty_at }
+pub fn served(height: u32, up: &UpServ, payout: &Pay, row: &MnRow) -> MnRow
+    requires { payout.now ≡ pay_of up.now.payout }
+    ensures { result ≡ spec.served height up.now row.now }
 {
     let set = MnRow {
         service: up.service,
-        operator_payout: script_kind(up.payout.as_slice()),
+        operator_payout: *payout,
         ..*row
     };
     if row.banned == 0 {
@@ -67,21 +67,6 @@ pub fn served(height: u32, up: &UpServ, row: &MnRow) -> MnRow
             revived: height,
             ..set
         }
-    }
-}
-
-// The row, banned from this height on if it wasn't banned before.
-fn ban(height: u32, row: &MnRow) -> MnRow
-    ensures row { result ≡ spec.ban height row.now }
-    ensures plain { result.penalty_at ≡ row.now.penalty_at }
-{
-    if row.banned == 0 {
-        MnRow {
-            banned: height,
-            ..*row
-        }
-    } else {
-        *row
     }
 }
 
@@ -101,11 +86,11 @@ fn cleared(row: &MnRow) -> MnRow
     }
 }
 
-/// The row with the keys and the payout of the payload; a new operator has to tell a service first.
+/// The row with the keys of the payload and what its payout pays to; a new operator has to tell a service first.
 #[tactic(auto, unfolding(crate::specs::Change::rekeyed))]
-pub fn rekeyed(height: u32, up: &UpReg, row: &MnRow) -> MnRow
-    ensures row { result ≡ spec.rekeyed height up.now row.now }
-    ensures plain { result.penalty_at ≡ row.now.penalty_at }
+pub fn rekeyed(height: u32, up: &UpReg, payout: &Pay, row: &MnRow) -> MnRow
+    requires { payout.now ≡ pay_of up.now.payout }
+    ensures { result ≡ spec.rekeyed height up.now row.now }
 {
     let kept = if row.operator == up.operator {
         *row
@@ -115,7 +100,7 @@ pub fn rekeyed(height: u32, up: &UpReg, row: &MnRow) -> MnRow
     MnRow {
         operator: up.operator,
         voting: up.voting,
-        payout: script_kind(up.payout.as_slice()),
+        payout: *payout,
         ..kept
     }
 }
@@ -123,8 +108,7 @@ pub fn rekeyed(height: u32, up: &UpReg, row: &MnRow) -> MnRow
 /// The row without an operator, and with the reason of the payload.
 #[tactic(auto, unfolding(crate::specs::Change::revoked))]
 pub fn revoked(height: u32, p: &Revoke, row: &MnRow) -> MnRow
-    ensures row { result ≡ spec.revoked height p.now row.now }
-    ensures plain { result.penalty_at ≡ row.now.penalty_at }
+    ensures { result ≡ spec.revoked height p.now row.now }
 {
     MnRow {
         reason: p.reason,
@@ -134,9 +118,7 @@ pub fn revoked(height: u32, p: &Revoke, row: &MnRow) -> MnRow
 
 /// The row as it is kept: its penalty is the one after block `height`.
 pub fn stored(height: u32, row: MnRow) -> MnRow
-    requires { row.penalty_at ≡ 0 }
-    ensures row { plain height result ≡ row }
-    ensures at { result.penalty_at ≡ height }
+    ensures { result ≡ spec.stored height row }
 {
     MnRow {
         penalty_at: height,

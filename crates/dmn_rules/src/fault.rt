@@ -1,13 +1,16 @@
 //! Why a transaction is refused.
 
 use dmn_rows::Rule;
+use thiserror::Error;
 
 /// Why a transaction is refused.
-#[derive(Clone, Copy, Debug, PartialEq, Eq)]
+#[derive(Clone, Copy, Debug, PartialEq, Eq, Error)]
 pub enum JudgeFault {
     /// The first rule that it breaks.
+    #[error("the transaction is refused: {0}")]
     Broken(Rule),
     /// Memory ran out while its payload was read.
+    #[error("memory ran out")]
     Memory,
 }
 

@@ -1,6 +1,6 @@
 //! The judgement of a provider transaction.
 
-ghost use Rattle.std.specs.Prelude.{◌≡◌, ◌≤◌, IfOk, not};
+ghost use Rattle.std.specs.Prelude.{◌≡◌, ◌≤◌, Some, IfOk, not};
 ghost use Rattle.std.specs.Option.{option_copied};
 ghost use Rattle.std.specs.Result.{result_err};
 ghost use Rattle.dmn_rows.specs.Distinct.{HasDistinctKeys};
@@ -9,25 +9,27 @@ ghost use Rattle.dmn_tx.specs.Defs.{id_of};
 ghost use Rattle.dmn_tx.specs.Tx.{KeepsPayload};
 ghost use Rattle.dmn_rules.specs.Change.{applied, row_of};
 ghost use Rattle.dmn_rules.specs.Defs as def;
-ghost use Rattle.dmn_rules.specs.Looking.{case_at, Gives};
+ghost use Rattle.dmn_rules.specs.Looking.{case_at, Gives, IsTold};
 ghost use Rattle.dmn_rules.specs.Provider as spec;
 ghost use Rattle.dmn_rules.specs.Table as table;
 
 use crate::change::{registered, rekeyed, revoked, served, stored};
-use crate::checks::{check, is_own, point_of, when};
+use crate::checks::{is_own, point_of};
 use crate::effect::Effect;
 use crate::facts::{Facts, facts_of};
 use crate::fault::JudgeFault;
-use crate::lookups::row_at;
+use crate::lookups::{replaced_by, row_at};
 use crate::provider::Provider;
 use crate::reading::read_provider;
 use crate::tables::{
-    form_rules, key_rules, registrar_rules, revoke_rules, script_of, service_rules, verdict_rules,
+    form_rules, key_rules, registrar_rules, revoke_rules, script_of, service_rules, signed_rules,
 };
 use dmn_bytes::Hash256;
-use dmn_payloads::{ProReg, Revoke, UpReg, UpServ};
-use dmn_rows::{Look, Profile, Rule, Verdict};
-use dmn_tx::{Tx, TxOut};
+use dmn_payloads::{ProReg, Revoke, UpReg, UpServ, script_kind};
+use dmn_rows::{
+    COLLATERAL_KEY, Look, OPERATOR_KEY, OWNER_KEY, Profile, Rule, Verdict, check, when,
+};
+use dmn_tx::{REGISTER_TX, REVOKE_TX, Tx, TxOut};
 use std::alloc::Global;
 
 /// Judges a provider transaction by rules 21 to 62 and 73 to 75, in the order of their numbers, and tells what it does
@@ -43,12 +45,15 @@ pub fn judge<L: Look>(
     id: &Hash256,
     verdict: Option<&Verdict>,
 ) -> Result<Effect, JudgeFault>
-    requires provider { (1 ≤ tx.now.kind) × (tx.now.kind ≤ 4) }
+    requires provider { (REGISTER_TX ≤ tx.now.kind) × (tx.now.kind ≤ REVOKE_TX) }
     requires payload { KeepsPayload tx.now }
     requires id { id.now ≡ id_of tx.now }
     requires keys { HasDistinctKeys (L.rows look.now) }
     // It refuses exactly with the first rule that is broken.
     ensures rule { def.Judges (def.judge_of profile.now (plain_rows height (L.rows look.now)) (L.outputs look.now) height tx.now (option_copied verdict.entry)) result }
+    // It tells this very effect.
+    ensures told { IfOk result (λ e. def.told_of (plain_rows height (L.rows look.now)) (L.outputs look.now) tx.now height
+        ≡ Some e) }
     // Applied to the stored rows, the effect gives the list after the transaction.
     ensures effect { IfOk result (λ e. plain_rows height (applied e (L.rows look.now))
         ≡ def.effect_of (plain_rows height (L.rows look.now)) (L.outputs look.now) tx.now height) }
@@ -77,6 +82,9 @@ pub fn judge_read<L: Look>(
     // It refuses exactly with the first rule that is broken.
     ensures rule { result_err result
         ≡ def.judge_read_of profile.now (plain_rows height (L.rows look.now)) (L.outputs look.now) height tx.now read.now (option_copied verdict.entry) }
+    // It tells this very effect.
+    ensures told { IfOk result (λ e. def.told_read_of (plain_rows height (L.rows look.now)) (L.outputs look.now) tx.now height read.now
+        ≡ Some e) }
     // Applied to the stored rows, the effect gives the list after the transaction.
     ensures effect { IfOk result (λ e. plain_rows height (applied e (L.rows look.now))
         ≡ def.effect_read_of (plain_rows height (L.rows look.now)) (L.outputs look.now) tx.now height read.now) }
@@ -86,7 +94,24 @@ pub fn judge_read<L: Look>(
     ensures distinct { IfOk result (λ e. HasDistinctKeys (applied e (L.rows look.now))) }
 {
     let facts = facts_of(profile, height, tx, id, verdict);
-    judge_payload(&facts, look, tx.outputs.as_slice(), read)
+    judge_by(&facts, look, tx.outputs.as_slice(), read)
+}
+
+// What is told gives the list after the transaction.
+fn judge_by<L: Look>(
+    facts: &Facts,
+    look: &L,
+    outs: &[TxOut],
+    read: &Provider,
+) -> Result<Effect, Rule>
+    requires { HasDistinctKeys (L.rows look.now) }
+    ensures rule { result_err result
+        ≡ table.first_of (spec.read_rules (case_at facts.now (L.rows look.now) (L.outputs look.now) outs.now) read.now) }
+    ensures told { IfOk result (IsTold (case_at facts.now (L.rows look.now) (L.outputs look.now) outs.now) read.now) }
+    ensures effect { IfOk result (Gives (case_at facts.now (L.rows look.now) (L.outputs look.now) outs.now) (L.rows look.now) read.now) }
+    ensures fresh { IfOk result (λ e. (row_of e).penalty_at ≡ facts.now.height) }
+{
+    judge_payload(facts, look, outs, read)
 }
 
 // The rule on the inputs hash.
@@ -111,8 +136,7 @@ fn judge_payload<L: Look>(
     requires { HasDistinctKeys (L.rows look.now) }
     ensures rule { result_err result
         ≡ table.first_of (spec.read_rules (case_at facts.now (L.rows look.now) (L.outputs look.now) outs.now) read.now) }
-    ensures effect { IfOk result (Gives (case_at facts.now (L.rows look.now) (L.outputs look.now) outs.now) (L.rows look.now) read.now) }
-    ensures fresh { IfOk result (λ e. (row_of e).penalty_at ≡ facts.now.height) }
+    ensures told { IfOk result (IsTold (case_at facts.now (L.rows look.now) (L.outputs look.now) outs.now) read.now) }
 {
     check(&[inputs_rule(facts, read)])?;
     match read {
@@ -123,7 +147,7 @@ fn judge_payload<L: Look>(
     }
 }
 
-#[tactic(auto, using(crate::proofs::Stages::first_of_append))]
+#[tactic(auto, using(dmn_rows::proofs::Table::first_broken_append))]
 fn judge_register<L: Look>(
     facts: &Facts,
     look: &L,
@@ -133,23 +157,23 @@ fn judge_register<L: Look>(
     requires { HasDistinctKeys (L.rows look.now) }
     ensures rule { result_err result
         ≡ table.first_of (spec.kind_rules (case_at facts.now (L.rows look.now) (L.outputs look.now) outs.now) (Provider.Register p.now)) }
-    ensures effect { IfOk result (Gives (case_at facts.now (L.rows look.now) (L.outputs look.now) outs.now) (L.rows look.now) (Provider.Register p.now)) }
-    ensures fresh { IfOk result (λ e. (row_of e).penalty_at ≡ facts.now.height) }
+    ensures told { IfOk result (IsTold (case_at facts.now (L.rows look.now) (L.outputs look.now) outs.now) (Provider.Register p.now)) }
 {
-    check(&form_rules(facts.port, p))?;
+    let payout = script_kind(p.payout.as_slice());
+    check(&form_rules(facts.port, p, &payout))?;
     let script = script_of(look, outs, p)?;
-    let point = point_of(&facts.id, p);
-    check(&key_rules(facts.height, look, &point, p, &script))?;
+    let replaced = replaced_by(look, &point_of(&facts.id, p));
+    check(&key_rules(facts.height, look, &replaced, p, &script))?;
     if !is_own(p) {
-        check(&verdict_rules(&facts.verdict, 1, &script.hash))?;
+        check(&signed_rules(&facts.verdict, COLLATERAL_KEY, &script.hash))?;
     }
     Ok(Effect::Register {
-        row: stored(facts.height, registered(facts, p, &script)),
-        replaced: look.by_collateral(&point),
+        row: stored(facts.height, registered(facts, p, &payout, &script)),
+        replaced,
     })
 }
 
-#[tactic(auto, using(crate::proofs::Stages::first_of_append))]
+#[tactic(auto, using(dmn_rows::proofs::Table::first_broken_append))]
 fn judge_service<L: Look>(
     facts: &Facts,
     look: &L,
@@ -159,18 +183,18 @@ fn judge_service<L: Look>(
     requires { HasDistinctKeys (L.rows look.now) }
     ensures rule { result_err result
         ≡ table.first_of (spec.kind_rules (case_at facts.now (L.rows look.now) (L.outputs look.now) outs.now) (Provider.Service up.now)) }
-    ensures effect { IfOk result (Gives (case_at facts.now (L.rows look.now) (L.outputs look.now) outs.now) (L.rows look.now) (Provider.Service up.now)) }
-    ensures fresh { IfOk result (λ e. (row_of e).penalty_at ≡ facts.now.height) }
+    ensures told { IfOk result (IsTold (case_at facts.now (L.rows look.now) (L.outputs look.now) outs.now) (Provider.Service up.now)) }
 {
     let row = row_at(look, facts.height, &up.pro_tx).ok_or(Rule::NoRow)?;
-    check(&service_rules(facts.port, facts.height, look, up, &row))?;
-    check(&verdict_rules(&facts.verdict, 3, &row.operator))?;
+    let payout = script_kind(up.payout.as_slice());
+    check(&service_rules(facts.port, facts.height, look, up, &payout, &row))?;
+    check(&signed_rules(&facts.verdict, OPERATOR_KEY, &row.operator))?;
     Ok(Effect::Update {
-        row: stored(facts.height, served(facts.height, up, &row)),
+        row: stored(facts.height, served(facts.height, up, &payout, &row)),
     })
 }
 
-#[tactic(auto, using(crate::proofs::Stages::first_of_append))]
+#[tactic(auto, using(dmn_rows::proofs::Table::first_broken_append))]
 fn judge_registrar<L: Look>(
     facts: &Facts,
     look: &L,
@@ -180,18 +204,18 @@ fn judge_registrar<L: Look>(
     requires { HasDistinctKeys (L.rows look.now) }
     ensures rule { result_err result
         ≡ table.first_of (spec.kind_rules (case_at facts.now (L.rows look.now) (L.outputs look.now) outs.now) (Provider.Registrar up.now)) }
-    ensures effect { IfOk result (Gives (case_at facts.now (L.rows look.now) (L.outputs look.now) outs.now) (L.rows look.now) (Provider.Registrar up.now)) }
-    ensures fresh { IfOk result (λ e. (row_of e).penalty_at ≡ facts.now.height) }
+    ensures told { IfOk result (IsTold (case_at facts.now (L.rows look.now) (L.outputs look.now) outs.now) (Provider.Registrar up.now)) }
 {
     let row = row_at(look, facts.height, &up.pro_tx).ok_or(Rule::NoRow)?;
-    check(&registrar_rules(facts.height, look, up, &row))?;
-    check(&verdict_rules(&facts.verdict, 2, &row.owner))?;
+    let payout = script_kind(up.payout.as_slice());
+    check(&registrar_rules(facts.height, look, up, &payout, &row))?;
+    check(&signed_rules(&facts.verdict, OWNER_KEY, &row.owner))?;
     Ok(Effect::Update {
-        row: stored(facts.height, rekeyed(facts.height, up, &row)),
+        row: stored(facts.height, rekeyed(facts.height, up, &payout, &row)),
     })
 }
 
-#[tactic(auto, using(crate::proofs::Stages::first_of_append))]
+#[tactic(auto, using(dmn_rows::proofs::Table::first_broken_append))]
 fn judge_revoke<L: Look>(
     facts: &Facts,
     look: &L,
@@ -201,12 +225,11 @@ fn judge_revoke<L: Look>(
     requires { HasDistinctKeys (L.rows look.now) }
     ensures rule { result_err result
         ≡ table.first_of (spec.kind_rules (case_at facts.now (L.rows look.now) (L.outputs look.now) outs.now) (Provider.Revoke p.now)) }
-    ensures effect { IfOk result (Gives (case_at facts.now (L.rows look.now) (L.outputs look.now) outs.now) (L.rows look.now) (Provider.Revoke p.now)) }
-    ensures fresh { IfOk result (λ e. (row_of e).penalty_at ≡ facts.now.height) }
+    ensures told { IfOk result (IsTold (case_at facts.now (L.rows look.now) (L.outputs look.now) outs.now) (Provider.Revoke p.now)) }
 {
     let row = row_at(look, facts.height, &p.pro_tx).ok_or(Rule::NoRow)?;
     check(&revoke_rules(p, &row))?;
-    check(&verdict_rules(&facts.verdict, 3, &row.operator))?;
+    check(&signed_rules(&facts.verdict, OPERATOR_KEY, &row.operator))?;
     Ok(Effect::Update {
         row: stored(facts.height, revoked(facts.height, p, &row)),
     })

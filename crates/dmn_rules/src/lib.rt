@@ -13,11 +13,9 @@ mod provider;
 mod reading;
 mod tables;
 
-pub use effect::{Effect, apply};
+pub use effect::Effect;
 pub use fault::JudgeFault;
 pub use judging::{judge, judge_read};
 pub use law::judged_by_the_least_number;
 pub use provider::Provider;
-
-#[cfg(test)]
-mod tests;
+pub use reading::read_other;

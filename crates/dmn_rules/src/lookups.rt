@@ -1,42 +1,33 @@
 //! What the rules look up in the list.
 
-ghost use Rattle.std.specs.Prelude.{◌≡◌, ℕ, find, IfSome};
+ghost use Rattle.std.specs.Prelude.{◌≡◌, ℕ, find};
 ghost use Rattle.dmn_rows.specs.Distinct.{HasDistinctKeys};
 ghost use Rattle.dmn_rows.specs.Rows.{plain_rows, has_hash, has_owner, has_operator};
-ghost use Rattle.dmn_rows.specs.Row.{plain};
 ghost use Rattle.dmn_rules.specs.Looking.{unless};
 ghost use Rattle.dmn_rules.specs.Provider as spec;
 ghost use Rattle.dmn_rules.specs.Table as table;
 
 use dmn_bytes::{Hash256, OutPoint};
 use dmn_payloads::{ProReg, UpReg, UpServ};
-use dmn_rows::{Look, MnRow, Rule};
-
-/// The row as it is after block `height`: its penalty in force, and no `penalty_at`.
-pub fn plain_at(row: &MnRow, height: u32) -> MnRow
-    ensures { result ≡ plain height row.now }
-{
-    let past = height.saturating_sub(row.penalty_at);
-    MnRow {
-        penalty: if row.banned == 0 {
-            row.penalty.saturating_sub(past)
-        } else {
-            row.penalty
-        },
-        penalty_at: 0,
-        ..*row
-    }
-}
+use dmn_rows::{Look, MnRow, Rule, plain_at};
 
 /// The row of a hash, as it is after block `height`.
 pub fn row_at<L: Look>(look: &L, height: u32, hash: &Hash256) -> Option<MnRow>
-    ensures found { result ≡ find (has_hash hash.now) (plain_rows height (L.rows look.now)) }
-    ensures plain { IfSome result (λ row. row.penalty_at ≡ 0) }
+    ensures { result ≡ find (has_hash hash.now) (plain_rows height (L.rows look.now)) }
 {
     match look.row(hash) {
         None => None,
         Some(row) => Some(plain_at(row, height)),
     }
+}
+
+/// The hash of the row whose collateral is at this outpoint.
+pub fn replaced_by<L: Look>(look: &L, point: &OutPoint) -> Option<Hash256>
+    ensures stored { result ≡ spec.replaced_by (L.rows look.now) point.now }
+    ensures seen { (height : ℕ)
+        → result ≡ spec.replaced_by (plain_rows height (L.rows look.now)) point.now }
+{
+    look.by_collateral(point)
 }
 
 /// The hash that was found, unless it is this one.
@@ -75,11 +66,12 @@ pub fn dup_operator<L: Look>(look: &L, key: &[u8; 48]) -> Option<Rule>
 }
 
 /// Whether a row but the replaced one has the service.
-pub fn dup_address<L: Look>(look: &L, point: &OutPoint, p: &ProReg) -> Option<Rule>
+pub fn dup_address<L: Look>(look: &L, replaced: &Option<Hash256>, p: &ProReg) -> Option<Rule>
     requires { HasDistinctKeys (L.rows look.now) }
-    ensures { (height : ℕ) → result ≡ spec.dup_address (plain_rows height (L.rows look.now)) point.now p.now }
+    ensures { (height : ℕ)
+        → result ≡ spec.dup_address (plain_rows height (L.rows look.now)) replaced.now p.now }
 {
-    match other_than(look.by_service(&p.service), &look.by_collateral(point)) {
+    match other_than(look.by_service(&p.service), replaced) {
         None => None,
         Some(row) => Some(Rule::DupAddress { row }),
     }

@@ -6,24 +6,24 @@ ghost use Rattle.std.specs.Result.{result_err};
 ghost use Rattle.dmn_payloads.specs.Scripts.{pay_of};
 ghost use Rattle.dmn_rows.specs.Distinct.{HasDistinctKeys};
 ghost use Rattle.dmn_rows.specs.Rows.{plain_rows};
+ghost use Rattle.dmn_rows.specs.Signed.{verdict_rules};
 ghost use Rattle.dmn_rules.specs.Provider as spec;
 ghost use Rattle.dmn_rules.specs.Table as table;
 
-use crate::checks::{
-    check, collateral_script, is_mapped, is_own, no_service, operator_payout_form,
-    operator_payout_unasked, payout_form, payout_key, pays, sig_presence, up_payout_form,
-    up_payout_key, verdict_missing, verdict_no, verdict_other, when,
-};
+use crate::checks::{is_mapped, is_own, pays, sig_presence};
 use crate::lookups::{dup_address, dup_operator, dup_owner, up_dup_address, up_dup_operator};
-use dmn_bytes::{OutPoint, Pay, dsha, is_zero};
+use dmn_bytes::{Hash256, Pay, dsha, is_zero};
 use dmn_payloads::{ProReg, Revoke, UpReg, UpServ, script_kind};
-use dmn_rows::{Look, MnRow, Rule, Verdict};
+use dmn_rows::{
+    COLLATERAL_VALUE, Look, MnRow, Rule, Verdict, WHOLE_REWARD, check, no_service, verdict_rules,
+    when,
+};
 use dmn_tx::TxOut;
 
-/// What a registration says of itself.
+/// What a registration says of itself, and what its payout pays to.
 #[tactic(auto, unfolding(crate::specs::Provider::form_rules))]
-pub fn form_rules(port: u16, p: &ProReg) -> [Option<Rule>; 8]
-    ensures { result ≡ table.unnumbered (spec.form_rules port p.now) }
+pub fn form_rules(port: u16, p: &ProReg, payout: &Pay) -> [Option<Rule>; 8]
+    ensures { result ≡ table.unnumbered (spec.form_rules port p.now payout.now) }
 {
     [
         when(p.kind != 0, Rule::RegType),
@@ -32,9 +32,12 @@ pub fn form_rules(port: u16, p: &ProReg) -> [Option<Rule>; 8]
             is_zero(&p.owner) || is_zero(&p.operator) || is_zero(&p.voting),
             Rule::NullKey,
         ),
-        payout_form(p),
-        payout_key(p),
-        when(10_000 < p.reward, Rule::RewardRange),
+        when(payout.kind == 0, Rule::PayoutForm),
+        when(
+            pays(payout, &p.owner) || pays(payout, &p.voting),
+            Rule::PayoutKey,
+        ),
+        when(WHOLE_REWARD < p.reward, Rule::RewardRange),
         when(
             !(no_service(&p.service) || is_mapped(port, &p.service)),
             Rule::AddressForm,
@@ -64,13 +67,22 @@ fn own_script(out: Option<&TxOut>) -> Result<Pay, Rule>
     match out {
         None => Err(Rule::CollateralIndex),
         Some(out) => {
-            check(&[
-                when(out.value != 100_000_000_000, Rule::CollateralValue),
-                collateral_script(out),
-            ])?;
-            Ok(script_kind(out.script.as_slice()))
+            let script = script_kind(out.script.as_slice());
+            check(&output_rules(out.value, &script))?;
+            Ok(script)
         }
     }
+}
+
+// An output that is to be the collateral, and what it pays to.
+#[tactic(auto, unfolding(crate::specs::Provider::output_rules))]
+fn output_rules(value: u64, script: &Pay) -> [Option<Rule>; 2]
+    ensures { result ≡ table.unnumbered (spec.output_rules value script.now) }
+{
+    [
+        when(value != COLLATERAL_VALUE, Rule::CollateralValue),
+        when(script.kind == 0, Rule::CollateralScript),
+    ]
 }
 
 fn external_script(script: Option<Pay>) -> Result<Pay, Rule>
@@ -86,18 +98,18 @@ fn external_script(script: Option<Pay>) -> Result<Pay, Rule>
     }
 }
 
-/// A registration's keys, and what its collateral pays to.
+/// A registration's keys, the hash of the row that it replaces, and what its collateral pays to.
 #[tactic(auto, unfolding(crate::specs::Provider::key_rules))]
 pub fn key_rules<L: Look>(
     height: u32,
     look: &L,
-    point: &OutPoint,
+    replaced: &Option<Hash256>,
     p: &ProReg,
     script: &Pay,
 ) -> [Option<Rule>; 4]
     requires { HasDistinctKeys (L.rows look.now) }
     ensures { result
-        ≡ table.unnumbered (spec.key_rules (plain_rows height (L.rows look.now)) point.now p.now script.now) }
+        ≡ table.unnumbered (spec.key_rules (plain_rows height (L.rows look.now)) replaced.now p.now script.now) }
 {
     [
         when(
@@ -106,38 +118,51 @@ pub fn key_rules<L: Look>(
         ),
         dup_owner(look, &p.owner),
         dup_operator(look, &p.operator),
-        dup_address(look, point, p),
+        dup_address(look, replaced, p),
     ]
 }
 
-/// A change of service, and the row that it names.
+/// A change of service, what its payout pays to, and the row that it names.
 #[tactic(auto, unfolding(crate::specs::Provider::service_rules))]
 pub fn service_rules<L: Look>(
     port: u16,
     height: u32,
     look: &L,
     up: &UpServ,
+    payout: &Pay,
     row: &MnRow,
 ) -> [Option<Rule>; 5]
     requires { HasDistinctKeys (L.rows look.now) }
     ensures { result
-        ≡ table.unnumbered (spec.service_rules port (plain_rows height (L.rows look.now)) up.now row.now) }
+        ≡ table.unnumbered (spec.service_rules port (plain_rows height (L.rows look.now)) up.now payout.now row.now) }
 {
     [
         when(!is_mapped(port, &up.service), Rule::UpAddress),
         up_dup_address(look, up),
-        operator_payout_form(up),
-        operator_payout_unasked(up, row),
+        when(
+            up.payout.len() != 0 && payout.kind == 0,
+            Rule::OperatorPayoutForm,
+        ),
+        when(
+            up.payout.len() != 0 && row.reward == 0,
+            Rule::OperatorPayoutUnasked,
+        ),
         when(is_zero(&row.operator), Rule::NoOperator),
     ]
 }
 
-/// A change of keys and payout, and the row that it names.
+/// A change of keys and payout, what that pays to, and the row that it names.
 #[tactic(auto, unfolding(crate::specs::Provider::registrar_rules))]
-pub fn registrar_rules<L: Look>(height: u32, look: &L, up: &UpReg, row: &MnRow) -> [Option<Rule>; 6]
+pub fn registrar_rules<L: Look>(
+    height: u32,
+    look: &L,
+    up: &UpReg,
+    payout: &Pay,
+    row: &MnRow,
+) -> [Option<Rule>; 6]
     requires { HasDistinctKeys (L.rows look.now) }
     ensures { result
-        ≡ table.unnumbered (spec.registrar_rules (plain_rows height (L.rows look.now)) up.now row.now) }
+        ≡ table.unnumbered (spec.registrar_rules (plain_rows height (L.rows look.now)) up.now payout.now row.now) }
 {
     [
         when(up.mode != 0, Rule::UpMode),
@@ -145,8 +170,11 @@ pub fn registrar_rules<L: Look>(height: u32, look: &L, up: &UpReg, row: &MnRow) 
             is_zero(&up.operator) || is_zero(&up.voting),
             Rule::UpNullKey,
         ),
-        up_payout_form(up),
-        up_payout_key(up, row),
+        when(payout.kind == 0, Rule::UpPayoutForm),
+        when(
+            pays(payout, &row.owner) || pays(payout, &up.voting),
+            Rule::UpPayoutKey,
+        ),
         up_dup_operator(look, up),
         when(pays(&row.script, &up.voting), Rule::UpCollateralKey),
     ]
@@ -164,14 +192,8 @@ pub fn revoke_rules(p: &Revoke, row: &MnRow) -> [Option<Rule>; 2]
 }
 
 /// A verdict that is needed: its kind, and the key that it is to be on.
-#[tactic(auto, unfolding(crate::specs::Provider::verdict_rules))]
-pub fn verdict_rules(verdict: &Option<Verdict>, kind: u8, key: &[u8]) -> [Option<Rule>; 3]
-    ensures { result ≡ table.unnumbered (spec.verdict_rules verdict.now kind key.now) }
+pub fn signed_rules(verdict: &Option<Verdict>, kind: u8, key: &[u8]) -> [Option<Rule>; 3]
+    ensures { result ≡ table.unnumbered (verdict_rules verdict.now kind (spec.digest_of key.now)) }
 {
-    let digest = dsha(key);
-    [
-        verdict_missing(verdict),
-        verdict_other(verdict, kind, &digest),
-        verdict_no(verdict),
-    ]
+    verdict_rules(verdict, kind, &dsha(key))
 }

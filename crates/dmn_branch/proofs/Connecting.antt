@@ -1,6 +1,7 @@
 -- A connect, by what is kept of the tip.
 use Rattle.std.proofs.Common.{◌≡◌, ℕ, true, false, None, Some, refl, sym, ap, ◌∙◌, subst}
 use Rattle.dmn_block.specs.declared.frame.BlockFrame.{BlockFrame}
+use Rattle.dmn_block.specs.Shape.{by_block}
 use Rattle.dmn_bytes.specs.declared.hash.Hash256.{Hash256}
 use Rattle.dmn_bytes.specs.Points.{is_zero}
 use Rattle.dmn_rows.specs.declared.profile.Profile.{Profile}
@@ -18,7 +19,7 @@ use Rattle.dmn_branch.proofs.Stepping.{tells_more}
 
 -- ---- rules 1 and 2
 
-pub hash_zero : (m : MachineState) (hash : Hash256) → is_zero hash.0 ≡ true → broken_hash m hash ≡ Some (ZeroHash, None)
+pub hash_zero : (m : MachineState) (hash : Hash256) → is_zero hash.0 ≡ true → broken_hash m hash ≡ Some (by_block ZeroHash)
 unfolding hash_rules
 hash_zero m hash zero = rw zero refl
 
@@ -26,12 +27,12 @@ pub hash_fresh : (m : MachineState) (hash : Hash256) → is_zero hash.0 ≡ fals
 unfolding hash_rules
 hash_fresh m hash some none = rw (some, none) refl
 
-pub hash_known : (m : MachineState) (hash : Hash256) (height : ℕ) → is_zero hash.0 ≡ false → machine.height_of m hash ≡ Some height → broken_hash m hash ≡ Some (HashKnown height, None)
+pub hash_known : (m : MachineState) (hash : Hash256) (height : ℕ) → is_zero hash.0 ≡ false → machine.height_of m hash ≡ Some height → broken_hash m hash ≡ Some (by_block (HashKnown height))
 unfolding hash_rules
 hash_known m hash height some is = rw (some, is) refl
 
 pub tells_known : (m : MachineState) (block : BlockFrame) (fault : PrepareFault) → TellsRule (broken_hash m block.hash) fault → Tells (connect m block) fault
-tells_known m block (faults.Refused rule tx) broken = connect_known m block (rule, tx) broken
+tells_known m block (faults.Refused refusal) broken = connect_known m block refusal broken
 tells_known m block faults.Memory broken = tt
 
 -- ---- the step
@@ -41,7 +42,7 @@ tells_step m block profile fault is fresh tells =
     tells_more (step_from profile (tip m) block) (connect m block) fault tells
     (λ refusal refused. connect_refuses m block refusal fresh (ap (λ (p : Profile). step_from p (tip m) block) (sym is) ∙ refused))
 
-pub next_is : (m : MachineState) (block : BlockFrame) (profile : Profile) (prepared : Kept) → profile ≡ machine.profile m → broken_hash m block.hash ≡ None → Follows profile (tip m) block prepared → IsNext prepared m block
-next_is m block profile prepared is fresh follows =
+pub next_is : (m : MachineState) (block : BlockFrame) (profile : Profile) (events : ℕ) (prepared : Kept) → profile ≡ machine.profile m → broken_hash m block.hash ≡ None → Follows profile (tip m) block events prepared → IsNext prepared m block
+next_is m block profile events prepared is fresh follows =
     let accepted = connect_accepts m block follows.after fresh (ap (λ (p : Profile). step_from p (tip m) block) (sym is) ∙ follows.stepped) in
     record { accepted = accepted.0; stands = subst (StandsAt prepared) (sym accepted.1) follows.stands }

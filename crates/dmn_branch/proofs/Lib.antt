@@ -1,8 +1,16 @@
 pub mod Keys
 pub mod Spending
+pub mod Events
+pub mod Confirming
 pub mod Replaying
 pub mod Standing
 pub mod Starting
 pub mod Judging
 pub mod Stepping
 pub mod Connecting
+mod Ranks
+mod Asking
+mod Putting
+mod Holding
+mod Entries
+mod Numbers

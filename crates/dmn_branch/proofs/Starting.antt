@@ -1,15 +1,19 @@
 -- A branch without blocks.
-use Rattle.std.proofs.Common.{◌≡◌, ◌-◌, [], ◌∷◌, refl, arith}
+use Rattle.std.proofs.Common.{◌≡◌, ◌-◌, ◌≤◌, false, length, List, [], ◌∷◌, map, refl, subst, arith, ℕ, max, drop, true, ◌==◌, Bool, cond, sym, ap}
+use Rattle.std.proofs.lemmas.Bool.{not-true}
 use Rattle.dmn_block.specs.State.{origin}
+use Rattle.dmn_bytes.specs.Points.{is_zero}
 use Rattle.dmn_merkle.specs.Defs.{merkle_root}
 use Rattle.dmn_rows.specs.declared.start.StartRecord.{StartRecord}
 use Rattle.dmn_rows.specs.Defs.{KeepsBounds}
 use Rattle.dmn_rows.specs.Listing.{OutputsAscend}
-use Rattle.dmn_rows.specs.Start.{start_record}
+use Rattle.dmn_rows.specs.Start.{start_record, hash_field, most_outputs}
+use Rattle.dmn_rows.specs.Profile.{small_profile, main_profile}
 use Rattle.dmn_rows.proofs.Found.{found_keeps, found_ascends}
 use Rattle.dmn_branch.specs.Step.{profile_of}
-use Rattle.dmn_branch.specs.Machine.{history, top}
-use Rattle.dmn_branch.specs.Stands.{Keeping, IsWhole, StandsAt, StandsFor, first_kept}
+use Rattle.dmn_branch.specs.Machine.{MachineState, held_states, history, top}
+use Rattle.dmn_branch.specs.Stands.{Kept, Keeping, AllStand, AreSound, IsWhole, IsKept, StandsAt, StandsFor, first_kept, kept_in}
+use Rattle.dmn_branch.proofs.Holding.{all_trees}
 
 pub start_bounds : (start : StartRecord) → start_record.Fits start → KeepsBounds start
 start_bounds start fits = found_keeps (start_record.text start) start (fits, refl)
@@ -17,18 +21,31 @@ start_bounds start fits = found_keeps (start_record.text start) start (fits, ref
 pub start_ascends : (start : StartRecord) → start_record.Fits start → OutputsAscend start.outputs
 start_ascends start fits = found_ascends (start_record.text start) start (fits, refl)
 
-pub first_whole : (start : StartRecord) → OutputsAscend start.outputs → IsWhole (first_kept start)
-first_whole start ascending = record {
+-- a registry doesn't begin behind a block whose hash is zero
+pub start_hash : (start : StartRecord) → start_record.Fits start → is_zero start.hash.0 ≡ false
+unfolding start_record hash_field
+start_hash start fits = not-true (is_zero start.hash.0) fits.1.1.1.0.1
+
+first_whole : (start : StartRecord) → is_zero start.hash.0 ≡ false → length start.outputs ≤ most_outputs → OutputsAscend start.outputs → IsWhole (first_kept start)
+unfolding merkle_root
+first_whole start hash few ascending = record {
+  hash = hash;
+  root = refl;
   keys = record { hashes = tt; owners = tt; operators = tt; services = tt; collaterals = tt };
   rows = tt;
   outputs = ascending;
   penalties = λ k d lt. absurd (omega (arith, lt));
   masternodes = omega arith;
+  collaterals = few;
 }
 
-first_stands : (start : StartRecord) → OutputsAscend start.outputs → StandsAt (first_kept start) (origin start)
+-- what is kept before the first block is whole
+pub begins_whole : (start : StartRecord) → start_record.Fits start → IsWhole (first_kept start)
+begins_whole start fits = first_whole start (start_hash start fits) (start_bounds start fits).outputs (start_ascends start fits)
+
+first_stands : (start : StartRecord) → start_record.Fits start → StandsAt (first_kept start) (origin start)
 unfolding merkle_root
-first_stands start ascending = record { height = refl; hash = refl; root = refl; rows = refl; outputs = refl; whole = first_whole start ascending }
+first_stands start fits = record { height = refl; hash = refl; root = refl; rows = refl; outputs = refl; whole = begins_whole start fits }
 
 -- a branch that has just begun
 pub record IsBegun (branch : Keeping) (start : StartRecord) : Type 0 where
@@ -37,11 +54,43 @@ pub record IsBegun (branch : Keeping) (start : StartRecord) : Type 0 where
   pub lists : branch.lists ≡ first_kept start ∷ []
   pub top : branch.top ≡ start.first - 1
 
-pub start_stands : (branch : Keeping) (start : StartRecord) → start_record.Fits start → IsBegun branch start → StandsFor branch (record { start = start; blocks = [] })
+-- the lowest height of a registry without blocks
+low_start : (first kept : ℕ) → max first (first - kept) ≡ first
+low_start first kept = omega arith
+
+deep_by : (small : Bool) → (cond small small_profile main_profile).depth ≤ (cond small small_profile main_profile).kept
+deep_by true = omega arith
+deep_by false = omega arith
+
+-- the heights that are held are at least as many as a tip may go back
+deep : (start : StartRecord) → (profile_of start).depth ≤ (profile_of start).kept
+deep start = deep_by (start.profile == 1)
+
+-- what a branch keeps that has just begun
+pub start_kept : (start : StartRecord) → start_record.Fits start → IsKept (profile_of start) start.first (start.first - 1) (first_kept start ∷ [])
+start_kept start fits =
+    let low = low_start (start.first - 1) (profile_of start).kept in
+    record {
+      begins = (start_bounds start fits).first.0;
+      some = omega arith;
+      heights = (sym low, tt);
+      tip = omega (arith, low);
+      deep = deep start;
+    }
+
+pub start_stands : (branch : Keeping) (start : StartRecord) → start_record.Fits start → IsBegun branch start → branch.lists ≡ map (kept_in branch.indexes) branch.held → AreSound branch.indexes branch.held → StandsFor branch (record { start = start; commands = [] })
 unfolding history top
-start_stands branch start fits begun = record {
-  profile = begun.profile;
-  first = begun.first;
-  lists = rw begun.lists (first_stands start (start_ascends start fits), tt);
-  top = begun.top;
-}
+start_stands branch start fits begun read sound =
+    let m : MachineState = record { start = start; commands = [] } in
+    let none : max (start.first - 1) (start.first - 1 - (profile_of start).kept) - (start.first - 1) ≡ 0 = omega (arith, low_start (start.first - 1) (profile_of start).kept) in
+    let states : origin start ∷ [] ≡ held_states m = ap (λ (n : ℕ). drop n (origin start ∷ [])) (sym none) in
+    let one : AllStand branch.lists (origin start ∷ []) = rw begun.lists (first_stands start fits, tt) in
+    let lists = subst (AllStand branch.lists) states one in
+    record {
+      profile = begun.profile;
+      first = begun.first;
+      lists = lists;
+      trees = all_trees branch.indexes branch.held (held_states m) sound.versions (subst (λ (l : List Kept). AllStand l (held_states m)) read lists);
+      top = begun.top;
+      lawful = refl;
+    }

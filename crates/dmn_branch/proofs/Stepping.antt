@@ -1,5 +1,5 @@
 -- One block more: the stages of a step, by what is kept of a height.
-use Rattle.std.proofs.Common.{◌≡◌, ℕ, suc, ◌+◌, ◌-◌, ◌≤◌, Bool, true, false, not, cond, List, [], ◌∷◌, ◌++◌, length, map, drop, Option, Some, None, Result, Ok, Err, refl, sym, ap, ◌∙◌, arith, inl, inr}
+use Rattle.std.proofs.Common.{◌≡◌, ℕ, ◌+◌, ◌-◌, ◌≤◌, Bool, true, false, not, List, [], ◌∷◌, ◌++◌, length, drop, Option, Some, None, Result, Ok, Err, refl, sym, ap, ◌∙◌, arith, inl, inr}
 use Rattle.std.specs.Prelude.{◌==◌, nat_lt}
 use Rattle.std.specs.Option.{option_or}
 use Rattle.std.specs.Result.{result_ok}
@@ -10,9 +10,11 @@ use Rattle.std.proofs.lemmas.List.{length-map}
 use Rattle.std.proofs.lemmas.Slice.Eq.{bytes_eq-Decides}
 use Rattle.dmn_bytes.specs.declared.hash.Hash256.{Hash256}
 use Rattle.dmn_bytes.specs.Format.{whole}
+use Rattle.dmn_bytes.specs.Points.{is_zero}
 use Rattle.dmn_bytes.specs.Sound.{whole_again}
 use Rattle.dmn_block.specs.declared.frame.BlockFrame.{BlockFrame}
-use Rattle.dmn_block.specs.Shape.{Refusal, Numbered, unnumbered, first_broken, of_block, of_first, other_height, payload_rules, link_rules, tx_rules, id_rules, verdict_rules, coinbase_rules, broken_rule, Judges, IsPayloadOfFirst}
+use Rattle.dmn_block.specs.declared.refusal.Refusal.{Refusal}
+use Rattle.dmn_block.specs.Shape.{Numbered, when, unnumbered, first_broken, by_block, by_tx, other_height, payload_rules, link_rules, tx_rules, id_rules, verdict_rules, coinbase_rules, shape_rules, broken_rule, Judges, IsPayloadOfFirst}
 use Rattle.dmn_block.specs.declared.fault.ShapeFault.{ShapeFault}
 use Rattle.dmn_block.specs.declared.fault.ShapeFault.TheVariants as shapes
 use Rattle.dmn_block.specs.Spend.{spend}
@@ -22,22 +24,32 @@ use Rattle.dmn_payloads.specs.Payloads.{cb, cb_sound}
 use Rattle.dmn_payloads.specs.declared.payloads.CbTx.{CbTx}
 use Rattle.dmn_rows.specs.declared.profile.Profile.{Profile}
 use Rattle.dmn_rows.specs.declared.row.MnRow.{MnRow}
-use Rattle.dmn_rows.specs.declared.rule.Rule.TheVariants.{CbHeight, TooManyMasternodes, TooManyOutputs, CbRoot}
-use Rattle.dmn_rows.specs.Listing.{Listing, IsAscending, OutputsAscend}
+use Rattle.dmn_rows.specs.declared.rule.Rule.TheVariants.{ZeroHash, CbHeight, TooManyChanges, TooManyMasternodes, TooManyOutputs, CbRoot}
+use Rattle.dmn_rows.specs.Profile.{confirm_wait}
+use Rattle.dmn_rows.specs.Listing.{Listing, OutputsAscend}
 use Rattle.dmn_rows.specs.Row.{plain}
 use Rattle.dmn_rows.specs.Rows.{Outputs, plain_rows}
 use Rattle.dmn_rows.specs.Start.{most_outputs}
 use Rattle.dmn_sml.specs.Defs.{root_of, simple}
 use Rattle.dmn_sml.specs.declared.entry.SmlEntry.{SmlEntry}
 use Rattle.dmn_sml.specs.Entry.{entry_of}
+use Rattle.dmn_standing.specs.Payment.{payee}
+use Rattle.dmn_standing.specs.Standing.{confirmed, decreased}
+use Rattle.dmn_standing.proofs.Seen.{confirmed_plain, decreased_plain, paid_plain}
+use Rattle.dmn_standing.proofs.Turns.{payee_plain}
+use Rattle.dmn_indexes.specs.Version.{few}
+use Rattle.dmn_indexes.specs.Working.{Worked, listing}
 use Rattle.dmn_tx.specs.declared.tx.Tx.{Tx}
 use Rattle.dmn_branch.specs.declared.fault.PrepareFault.{PrepareFault}
 use Rattle.dmn_branch.specs.declared.fault.PrepareFault.TheVariants as faults
 use Rattle.dmn_branch.specs.Fault.{of_shape, Tells}
-use Rattle.dmn_branch.specs.Parts.{IsWorking, from_place, Follows}
+use Rattle.dmn_branch.specs.Events.{confirmations, once_there, spend_events}
+use Rattle.dmn_branch.specs.Parts.{Given, IsWorking, Follows, given_of, counted_at, outcome_of, from_place}
 use Rattle.dmn_branch.specs.Stands.{Kept, kept_of, IsWhole, StandsAt}
-use Rattle.dmn_branch.specs.Step.{decrease, transactions, most_rows, coinbase_in, last_rules, state_of, shaped, transacted, spent, closed, step_from}
-use Rattle.dmn_branch.proofs.Spending.{seen, spend_seen, spend_keys, spend_all}
+use Rattle.dmn_branch.specs.Step.{Outcome, transactions, most_events, most_rows, coinbase_in, marked, last_rules, state_of, shaped, stood, transacted, spent, after_payment, outcome, closed, step_from, events_in}
+use Rattle.dmn_branch.proofs.Confirming.{confirmed_all}
+use Rattle.dmn_branch.proofs.Events.{there_seen, confirmations_seen, spend_events_seen}
+use Rattle.dmn_branch.proofs.Spending.{seen, spend_seen, spend_keys, spend_ascends, spend_all}
 
 -- ---- what the rules on the block as a whole say of the coinbase
 
@@ -61,7 +73,7 @@ last_of_three (Some refusal) b c e = absurd cc
 same_height : (height : ℕ) (value : CbTx) → other_height height (Ok value) ≡ None → value.height ≡ height
 same_height height value e = elim (cases_Bool (value.height == height)) [
   | inl is ↦ eqb-true value.height height is
-  | inr differs ↦ let no : Some (CbHeight value.height, Some 0) ≡ None = sym (ap (λ b. of_first (not b) (CbHeight value.height)) differs) ∙ e in absurd cc
+  | inr differs ↦ let no : Some (by_tx 0 (CbHeight value.height)) ≡ None = sym (ap (λ b. when (not b) (by_tx 0 (CbHeight value.height))) differs) ∙ e in absurd cc
 ]
 
 payload_kept : (height : ℕ) (tx : Tx) (value : CbTx) → first_broken (unnumbered (payload_rules height tx)) ≡ None → whole cb tx.payload ≡ Ok value → value.height ≡ height
@@ -78,20 +90,16 @@ shape_says block tip height value none is = go block.txs (coinbase_kept block ti
         let read : whole cb tx.payload ≡ Ok value = ap (whole cb) is.1 ∙ whole_again cb cb_sound value is.0 in
         (ap result_ok read, payload_kept (height + 1) tx value e read)
 
--- ---- penalties, one block later
-
-decrease_plain : (n : ℕ) (row : MnRow) → row.penalty_at ≤ n → decrease (plain n row) ≡ plain (n + 1) row
-decrease_plain n row le = ap (λ (p : ℕ). record row { penalty = p; penalty_at = 0 }) (go (row.banned == 0))
+-- behind them the block's hash isn't zero
+pub hash_kept : (block : BlockFrame) (tip : Hash256) (height : ℕ) → broken_rule block tip height ≡ None → is_zero block.hash.0 ≡ false
+unfolding link_rules
+hash_kept block tip height none = go (is_zero block.hash.0) none
   where
-    go : (b : Bool) → cond b (cond b (row.penalty - (n - row.penalty_at)) row.penalty - 1) (cond b (row.penalty - (n - row.penalty_at)) row.penalty) ≡ cond b (row.penalty - (n + 1 - row.penalty_at)) row.penalty
-    go true = omega (arith, le)
-    go false = refl
+    go : (b : Bool) → first_broken (when b (by_block ZeroHash) ∷ unnumbered (drop 1 (shape_rules block tip height))) ≡ None → b ≡ false
+    go true e = absurd cc
+    go false e = refl
 
-pub decreased : (n : ℕ) (rows : List MnRow) → All (λ row. row.penalty_at ≤ n) rows → map decrease (plain_rows n rows) ≡ plain_rows (n + 1) rows
-decreased n [] all = refl
-decreased n (row ∷ rows) all =
-    ap (λ (r : MnRow). r ∷ map decrease (plain_rows n rows)) (decrease_plain n row (all 0 row (omega arith)))
-    ∙ ap (λ (rest : List MnRow). plain (n + 1) row ∷ rest) (decreased n rows (λ k d lt. all (suc k) d (omega (arith, lt))))
+-- ---- penalties, one block later
 
 -- no penalty of a later height than the next
 pub later : (n m : ℕ) (rows : List MnRow) → n ≤ m → All (λ row. row.penalty_at ≤ n) rows → All (λ row. row.penalty_at ≤ m) rows
@@ -103,109 +111,210 @@ pub simple_seen : (h : ℕ) (rows : List MnRow) → simple (plain_rows h rows) �
 simple_seen h [] = refl
 simple_seen h (row ∷ rows) = ap (λ (entries : List SmlEntry). entry_of row ∷ entries) (simple_seen h rows)
 
-last_seen : (o : Option CbTx) (h : ℕ) (list : Listing) → last_rules o (seen h list) ≡ last_rules o list
+-- an outcome with its rows as they are seen at a height
+abbrev seen_outcome : ℕ → Worked → Outcome
+seen_outcome h list = record { list = seen h (listing list); events = list.events }
+
+last_seen : (o : Option CbTx) (h : ℕ) (list : Worked) → last_rules o (seen_outcome h list) ≡ last_rules o (outcome_of list)
 unfolding last_rules
 last_seen o h list = rw (length-map list.rows (plain h), simple_seen h list.rows) refl
 
--- behind them there aren't too many masternodes, and the root is the one to which the coinbase commits
-pub last_says : (value : CbTx) (after : Listing) → first_broken (unnumbered (last_rules (Some value) after)) ≡ None → (length after.rows ≤ most_rows) × (value.rows ≡ root_of (simple after.rows))
+-- what there is behind the last rules, by the root to which the coinbase commits
+pub record IsLawful (value : CbTx) (after : Outcome) : Type 0 where
+  pub events : after.events ≤ most_events
+  pub rows : length after.list.rows ≤ most_rows
+  pub outputs : length after.list.outputs ≤ most_outputs
+  pub root : value.rows ≡ root_of (simple after.list.rows)
+
+pub last_says : (value : CbTx) (after : Outcome) → first_broken (unnumbered (last_rules (Some value) after)) ≡ None → IsLawful value after
 unfolding last_rules
-last_says value after e = go (nat_lt most_rows (length after.rows)) (nat_lt most_outputs (length after.outputs)) (bytes_eq value.rows.0 (root_of (simple after.rows)).0) refl refl e
+last_says value after e =
+    go (nat_lt most_events after.events) (nat_lt most_rows (length after.list.rows)) (nat_lt most_outputs (length after.list.outputs)) (bytes_eq value.rows.0 root.0) refl refl refl refl e
   where
-    go : (a b c : Bool) → nat_lt most_rows (length after.rows) ≡ a → bytes_eq value.rows.0 (root_of (simple after.rows)).0 ≡ c → first_broken (of_block a TooManyMasternodes ∷ of_block b TooManyOutputs ∷ of_block (not c) (CbRoot value.rows (root_of (simple after.rows))) ∷ []) ≡ None → (length after.rows ≤ most_rows) × (value.rows ≡ root_of (simple after.rows))
-    go false false true few same e = (ltb-false most_rows (length after.rows) few, ap (λ (bytes : List ℕ). record { 0 = bytes }) ((bytes_eq-Decides _ _).0 same))
-    go true b c few same e = absurd cc
-    go false true c few same e = absurd cc
-    go false false false few same e = absurd cc
+    root : Hash256
+    root = root_of (simple after.list.rows)
+
+    go : (a b c d : Bool) → nat_lt most_events after.events ≡ a → nat_lt most_rows (length after.list.rows) ≡ b → nat_lt most_outputs (length after.list.outputs) ≡ c → bytes_eq value.rows.0 root.0 ≡ d
+        → first_broken (when a (by_block TooManyChanges) ∷ when b (by_block TooManyMasternodes) ∷ when c (by_block TooManyOutputs) ∷ when (not d) (by_block (CbRoot value.rows root)) ∷ []) ≡ None → IsLawful value after
+    go false false false true events rows outputs same e = record {
+      events = ltb-false most_events after.events events;
+      rows = ltb-false most_rows (length after.list.rows) rows;
+      outputs = ltb-false most_outputs (length after.list.outputs) outputs;
+      root = ap (λ (bytes : List ℕ). record { 0 = bytes }) ((bytes_eq-Decides _ _).0 same);
+    }
+    go true b c d events rows outputs same e = absurd cc
+    go false true c d events rows outputs same e = absurd cc
+    go false false true d events rows outputs same e = absurd cc
+    go false false false false events rows outputs same e = absurd cc
 
 -- ---- the stages
 
-module _ (profile : Profile) (tip : Kept) (state : State) (block : BlockFrame) (at : StandsAt tip state) (h : ℕ) (next : h ≡ tip.height + 1) where
-  abbrev stored : Listing
-  stored = record { rows = tip.rows; outputs = tip.outputs }
+marked_seen : (h height : ℕ) (who : Option Hash256) (rows : List MnRow) → plain_rows h (marked height who rows) ≡ marked height who (plain_rows h rows)
+marked_seen h height None rows = refl
+marked_seen h height (Some hash) rows = paid_plain h height hash rows
 
+-- the working list once the rows that are due at a height are confirmed
+pub record IsBegun (tip : Kept) (h : ℕ) (begun : Worked) : Type 0 where
+  pub rows : begun.rows ≡ confirmed confirm_wait h tip.hash tip.rows
+  pub events : begun.events ≡ confirmations confirm_wait h tip.rows
+  pub outputs : begun.outputs ≡ tip.outputs
+
+pub begun_from : (tip : Kept) (h : ℕ) (hash : Hash256) (old begun : Worked) → listing old ≡ record { rows = tip.rows; outputs = tip.outputs } → old.events ≡ 0 → tip.hash ≡ hash
+    → begun.rows ≡ confirmed confirm_wait h hash old.rows → begun.events ≡ old.events + confirmations confirm_wait h old.rows → begun.outputs ≡ old.outputs → IsBegun tip h begun
+begun_from tip h hash old begun same none before rows events outputs =
+    let here = ap (λ (l : Listing). l.rows) same in
+    let counts = ap (confirmations confirm_wait h) here in
+    record {
+      rows = rows ∙ ap (λ (b : Hash256). confirmed confirm_wait h b old.rows) (sym before) ∙ ap (confirmed confirm_wait h tip.hash) here;
+      events = omega (arith, events, none, counts);
+      outputs = outputs ∙ ap (λ (l : Listing). l.outputs) same;
+    }
+
+-- the working lists behind the transactions, behind the spends and behind the mark
+pub record IsEnded (given : Given) (who : Option Hash256) (block : BlockFrame) (begun judged spending after : Worked) : Type 0 where
+  pub judging : from_place given block begun 1 ≡ Ok (counted_at given.height judged)
+  pub same : judged.outputs ≡ begun.outputs
+  pub spends : listing spending ≡ spend block.txs (listing judged)
+  pub removed : spending.events ≡ judged.events + spend_events block.txs (listing judged)
+  pub marks : after.rows ≡ marked given.height who spending.rows
+  pub others : after.outputs ≡ spending.outputs
+  pub mark : after.events ≡ spending.events + once_there who spending.rows
+
+module _ (profile : Profile) (tip : Kept) (state : State) (block : BlockFrame) (at : StandsAt tip state) (h : ℕ) (next : h ≡ tip.height + 1) where
   broken_is : broken_rule block state.hash state.height ≡ broken_rule block tip.hash tip.height
   broken_is = ap (λ (hash : Hash256). broken_rule block hash state.height) (sym at.hash) ∙ ap (λ (height : ℕ). broken_rule block tip.hash height) (sym at.height)
 
   height_is : state.height + 1 ≡ h
   height_is = sym (next ∙ ap (λ (n : ℕ). n + 1) at.height)
 
-  rows_are : map decrease state.rows ≡ plain_rows h tip.rows
-  rows_are =
-      ap (map decrease) (sym at.rows)
-      ∙ ap (λ (n : ℕ). map decrease (plain_rows n tip.rows)) (sym at.height)
-      ∙ decreased tip.height tip.rows at.whole.penalties
-      ∙ ap (λ (n : ℕ). plain_rows n tip.rows) (sym next)
-
-  transacted_is : transacted profile state block state.rows ≡ from_place profile h block stored 1
-  unfolding transacted
-  transacted_is =
-      ap (λ (n : ℕ). transactions (record { profile = profile; height = n; outputs = state.outputs; verdicts = block.verdicts }) 1 (drop 1 block.txs) (map decrease state.rows)) height_is
-      ∙ ap (λ (outputs : Outputs). transactions (record { profile = profile; height = h; outputs = outputs; verdicts = block.verdicts }) 1 (drop 1 block.txs) (map decrease state.rows)) (sym at.outputs)
-      ∙ ap (transactions (record { profile = profile; height = h; outputs = tip.outputs; verdicts = block.verdicts }) 1 (drop 1 block.txs)) rows_are
-
   -- the first stage refuses
   pub shape_refuses : (refusal : Refusal) → broken_rule block tip.hash tip.height ≡ Some refusal → step_from profile state block ≡ Err refusal
-  unfolding step_from shaped
+  unfolding step_from outcome shaped
   shape_refuses refusal broken = rw (broken_is, broken) refl
 
-  -- the transactions refuse
-  pub transactions_refuse : (refusal : Refusal) → broken_rule block tip.hash tip.height ≡ None → from_place profile h block stored 1 ≡ Err refusal → step_from profile state block ≡ Err refusal
-  unfolding step_from shaped
-  transactions_refuse refusal shape broken = rw (broken_is, shape, transacted_is, broken) refl
+  module _ (begun : Worked) (shape : broken_rule block tip.hash tip.height ≡ None) (begins : IsBegun tip h begun) where
+    seen_are : plain_rows tip.height tip.rows ≡ state.rows
+    seen_are = ap (λ (n : ℕ). plain_rows n tip.rows) at.height ∙ at.rows
 
-  module _ (value : CbTx) (judged after : Listing) (shape : broken_rule block tip.hash tip.height ≡ None) (rows : from_place profile h block stored 1 ≡ Ok (plain_rows h judged.rows)) (outputs : judged.outputs ≡ tip.outputs) (spending : after ≡ spend block.txs judged) (coinbase : coinbase_in block.txs ≡ Some value) where
-    spent_is : spent state block (plain_rows h judged.rows) ≡ seen h after
-    unfolding spent
-    spent_is =
-        ap (λ (outs : Outputs). spend block.txs (record { rows = plain_rows h judged.rows; outputs = outs })) (sym at.outputs ∙ sym outputs)
-        ∙ spend_seen h block.txs judged
-        ∙ ap (seen h) (sym spending)
+    -- rows that were confirmed as they are stored, seen one block later, are the rows that were confirmed, with the penalties decreased
+    rows_are : decreased (confirmed confirm_wait h tip.hash state.rows) ≡ plain_rows h begun.rows
+    rows_are =
+        ap (λ (l : List MnRow). decreased (confirmed confirm_wait h tip.hash l)) (sym seen_are)
+        ∙ ap decreased (sym (confirmed_plain tip.height confirm_wait h tip.hash tip.rows))
+        ∙ sym (decreased_plain tip.height (confirmed confirm_wait h tip.hash tip.rows) (confirmed_all tip.height confirm_wait h tip.hash tip.rows at.whole.penalties))
+        ∙ ap (λ (n : ℕ). plain_rows n (confirmed confirm_wait h tip.hash tip.rows)) (sym next)
+        ∙ ap (plain_rows h) (sym begins.rows)
 
-    broken_last : (unnumbered (last_rules (coinbase_in block.txs) (seen h after))) ≡ unnumbered (last_rules (Some value) after)
-    broken_last = ap (λ (o : Option CbTx). unnumbered (last_rules o (seen h after))) coinbase ∙ ap unnumbered (last_seen (Some value) h after)
+    events_are : confirmations confirm_wait h state.rows ≡ begun.events
+    events_are = ap (confirmations confirm_wait h) (sym seen_are) ∙ confirmations_seen tip.height confirm_wait h tip.rows ∙ sym begins.events
 
-    -- the last rules refuse
-    pub last_refuses : (refusal : Refusal) → first_broken (unnumbered (last_rules (Some value) after)) ≡ Some refusal → step_from profile state block ≡ Err refusal
-    unfolding step_from shaped closed
-    last_refuses refusal broken = rw (broken_is, shape, transacted_is, rows) (rw (spent_is, broken_last, broken) refl)
+    stood_is : stood state state.rows ≡ counted_at h begun
+    unfolding stood
+    stood_is =
+        ap (λ (n : ℕ). record { rows = decreased (confirmed confirm_wait n state.hash state.rows); events = confirmations confirm_wait n state.rows }) height_is
+        ∙ ap (λ (hash : Hash256). record { rows = decreased (confirmed confirm_wait h hash state.rows); events = confirmations confirm_wait h state.rows }) (sym at.hash)
+        ∙ ap (λ (l : List MnRow). record { rows = l; events = confirmations confirm_wait h state.rows }) rows_are
+        ∙ ap (λ (n : ℕ). record { rows = plain_rows h begun.rows; events = n }) events_are
 
-    -- nothing refuses
-    pub follows : (kept : Kept) → kept ≡ kept_of h block.hash value.rows after → first_broken (unnumbered (last_rules (Some value) after)) ≡ None → IsWhole kept → Follows profile state block kept
-    unfolding step_from shaped closed
-    follows kept is none whole = record {
-      after = state_of state block (seen h after);
-      stepped = rw (broken_is, shape, transacted_is, rows) (rw (spent_is, broken_last, none) refl);
-      stands = record {
-        height = rw is (sym height_is);
-        hash = rw is refl;
-        root = rw is ((last_says value after none).1 ∙ ap root_of (sym (simple_seen h after.rows)));
-        rows = rw is (ap (λ (n : ℕ). plain_rows n after.rows) height_is);
-        outputs = rw is refl;
-        whole = whole;
-      };
-    }
+    transacted_is : transacted profile state block (stood state state.rows) ≡ from_place (given_of profile h block) block begun 1
+    unfolding transacted
+    transacted_is =
+        ap (λ (n : ℕ). transactions (record { profile = profile; height = n; outputs = state.outputs; verdicts = block.verdicts }) 1 (drop 1 block.txs) (stood state state.rows)) height_is
+        ∙ ap (λ (outs : Outputs). transactions (record { profile = profile; height = h; outputs = outs; verdicts = block.verdicts }) 1 (drop 1 block.txs) (stood state state.rows)) (sym (begins.outputs ∙ at.outputs))
+        ∙ ap (transactions (record { profile = profile; height = h; outputs = begun.outputs; verdicts = block.verdicts }) 1 (drop 1 block.txs)) stood_is
+
+    -- the transactions refuse
+    pub transactions_refuse : (refusal : Refusal) → from_place (given_of profile h block) block begun 1 ≡ Err refusal → step_from profile state block ≡ Err refusal
+    unfolding step_from outcome shaped
+    transactions_refuse refusal broken = rw (broken_is, shape, transacted_is, broken) refl
+
+    module _ (value : CbTx) (judged spending after : Worked) (ends : IsEnded (given_of profile h block) (payee tip.rows) block begun judged spending after) (coinbase : coinbase_in block.txs ≡ Some value) where
+      spent_is : spent state block (counted_at h judged) ≡ seen_outcome h spending
+      unfolding spent
+      spent_is =
+          ap (λ (outs : Outputs). let l : Listing = record { rows = plain_rows h judged.rows; outputs = outs } in record { list = spend block.txs l; events = judged.events + spend_events block.txs l }) (sym at.outputs ∙ sym begins.outputs ∙ sym ends.same)
+          ∙ ap (λ (l : Listing). record { list = l; events = judged.events + spend_events block.txs (seen h (listing judged)) }) (spend_seen h block.txs (listing judged) ∙ ap (seen h) (sym ends.spends))
+          ∙ ap (λ (n : ℕ). record { list = seen h (listing spending); events = n }) (ap (λ (n : ℕ). judged.events + n) (spend_events_seen h block.txs (listing judged)) ∙ sym ends.removed)
+
+      payee_is : payee state.rows ≡ payee tip.rows
+      payee_is = ap payee (sym seen_are) ∙ payee_plain tip.height tip.rows
+
+      paid_is : after_payment state (seen_outcome h spending) ≡ seen_outcome h after
+      unfolding after_payment
+      paid_is =
+          ap (λ (n : ℕ). record { list = record { rows = marked n (payee state.rows) (plain_rows h spending.rows); outputs = spending.outputs }; events = spending.events + once_there (payee state.rows) (plain_rows h spending.rows) }) height_is
+          ∙ ap (λ (who : Option Hash256). record { list = record { rows = marked h who (plain_rows h spending.rows); outputs = spending.outputs }; events = spending.events + once_there who (plain_rows h spending.rows) }) payee_is
+          ∙ ap (λ (l : List MnRow). record { list = record { rows = l; outputs = spending.outputs }; events = spending.events + once_there (payee tip.rows) (plain_rows h spending.rows) }) (sym (marked_seen h h (payee tip.rows) spending.rows) ∙ ap (plain_rows h) (sym ends.marks))
+          ∙ ap (λ (outs : Outputs). record { list = record { rows = plain_rows h after.rows; outputs = outs }; events = spending.events + once_there (payee tip.rows) (plain_rows h spending.rows) }) (sym ends.others)
+          ∙ ap (λ (n : ℕ). record { list = seen h (listing after); events = n }) (ap (λ (n : ℕ). spending.events + n) (there_seen h (payee tip.rows) spending.rows) ∙ sym ends.mark)
+
+      outcome_is : outcome profile state block ≡ Ok (seen_outcome h after)
+      unfolding outcome shaped
+      outcome_is = rw (broken_is, shape, transacted_is, ends.judging) (rw (spent_is, paid_is) refl)
+
+      broken_last : (unnumbered (last_rules (coinbase_in block.txs) (seen_outcome h after))) ≡ unnumbered (last_rules (Some value) (outcome_of after))
+      broken_last = ap (λ (o : Option CbTx). unnumbered (last_rules o (seen_outcome h after))) coinbase ∙ ap unnumbered (last_seen (Some value) h after)
+
+      -- the last rules refuse
+      pub last_refuses : (refusal : Refusal) → first_broken (unnumbered (last_rules (Some value) (outcome_of after))) ≡ Some refusal → step_from profile state block ≡ Err refusal
+      unfolding step_from closed
+      last_refuses refusal broken = rw (outcome_is) (rw (broken_last, broken) refl)
+
+      -- nothing refuses
+      pub follows : (kept : Kept) → kept ≡ kept_of h block.hash value.rows (listing after) → first_broken (unnumbered (last_rules (Some value) (outcome_of after))) ≡ None → IsWhole kept → Follows profile state block after.events kept
+      unfolding step_from closed
+      follows kept is none whole = record {
+        after = state_of state block (seen h (listing after));
+        stepped = rw (outcome_is) (rw (broken_last, none) refl);
+        counted = sym (ap events_in outcome_is);
+        stands = record {
+          height = rw is (sym height_is);
+          hash = rw is refl;
+          root = rw is ((last_says value (outcome_of after) none).root ∙ ap root_of (sym (simple_seen h after.rows)));
+          rows = rw is (ap (λ (n : ℕ). plain_rows n after.rows) height_is);
+          outputs = rw is refl;
+          whole = whole;
+        };
+      }
 
 -- ---- what faults tell
 
 pub tells_shape : {X : Type 0} (broken : Option Refusal) (defined : Result X Refusal) (fault : ShapeFault) → Judges {V = CbTx} broken (Err fault) → ((refusal : Refusal) → broken ≡ Some refusal → defined ≡ Err refusal) → Tells defined (of_shape fault)
-tells_shape broken defined (shapes.Broken rule tx) h refuses = refuses (rule, tx) h
+tells_shape broken defined (shapes.Broken refusal) h refuses = refuses refusal h
 tells_shape broken defined shapes.Memory h refuses = tt
 
 pub tells_more : {X Y : Type 0} (first : Result X Refusal) (defined : Result Y Refusal) (fault : PrepareFault) → Tells first fault → ((refusal : Refusal) → first ≡ Err refusal → defined ≡ Err refusal) → Tells defined fault
-tells_more first defined (faults.Refused rule tx) h refuses = refuses (rule, tx) h
+tells_more first defined (faults.Refused refusal) h refuses = refuses refusal h
 tells_more first defined faults.Memory h refuses = tt
+
+-- ---- few rows, outputs and events
+
+-- as many masternodes and as many outputs as there may be, and as many events as a block may have, are few pairs
+pub stays_small : {rows outputs events : ℕ} → rows ≤ most_rows → outputs ≤ most_outputs → events ≤ most_events → (rows + (events - 0) ≤ few) × (outputs + (events - 0) ≤ few)
+stays_small masternodes collaterals counted = (omega (arith, masternodes, counted), omega (arith, collaterals, counted))
 
 -- ---- what is kept is whole
 
 pub working_from : (tip : Kept) (h : ℕ) (list : Listing) → IsWhole tip → h ≡ tip.height + 1 → list ≡ record { rows = tip.rows; outputs = tip.outputs } → IsWorking h list.rows
-working_from tip h list whole next is = rw is (record { keys = whole.keys; penalties = later tip.height h tip.rows (omega (arith, next)) whole.penalties })
+working_from tip h list whole next is = rw is (record { keys = whole.keys; ascending = whole.rows; penalties = later tip.height h tip.rows (omega (arith, next)) whole.penalties })
 
-pub next_whole : (h : ℕ) (hash : Hash256) (value : CbTx) (txs : List Tx) (judged after : Listing) → IsWorking h judged.rows → after ≡ spend txs judged → IsAscending after.rows → OutputsAscend after.outputs → first_broken (unnumbered (last_rules (Some value) after)) ≡ None → IsWhole (kept_of h hash value.rows after)
-next_whole h hash value txs judged after working spending rows outputs none = record {
-  keys = rw spending (spend_keys txs judged working.keys);
-  rows = rows;
-  outputs = outputs;
-  penalties = rw spending (spend_all (λ row. row.penalty_at ≤ h) txs judged working.penalties);
-  masternodes = (last_says value after none).0;
-}
+pub working_spent : (h : ℕ) (txs : List Tx) (judged after : Listing) → after ≡ spend txs judged → IsWorking h judged.rows → IsWorking h after.rows
+working_spent h txs judged after spending working = rw spending (record {
+  keys = spend_keys txs judged working.keys;
+  ascending = spend_ascends txs judged working.ascending;
+  penalties = spend_all (λ row. row.penalty_at ≤ h) txs judged working.penalties;
+})
+
+pub next_whole : (h : ℕ) (hash : Hash256) (value : CbTx) (after : Worked) → is_zero hash.0 ≡ false → IsWorking h after.rows → OutputsAscend after.outputs → first_broken (unnumbered (last_rules (Some value) (outcome_of after))) ≡ None → IsWhole (kept_of h hash value.rows (listing after))
+next_whole h hash value after some working outputs none =
+    let lawful = last_says value (outcome_of after) none in
+    record {
+      hash = some;
+      root = lawful.root;
+      keys = working.keys;
+      rows = working.ascending;
+      outputs = outputs;
+      penalties = working.penalties;
+      masternodes = lawful.rows;
+      collaterals = lawful.outputs;
+    }

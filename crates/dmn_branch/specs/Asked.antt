@@ -1,10 +1,15 @@
 -- What is asked of a branch.
-use Rattle.std.specs.Prelude.{◌≡◌, ℕ, List, length, Option, None, Some}
+use Rattle.std.specs.Prelude.{◌≡◌, ℕ, List, length, find, filter, Option, None, Some}
+use Rattle.std.specs.Option.{option_map}
 use Rattle.dmn_block.specs.State.{State}
 use Rattle.dmn_bytes.specs.declared.hash.Hash256.{Hash256}
 use Rattle.dmn_rows.specs.declared.row.MnRow.{MnRow}
-use Rattle.dmn_rows.specs.Rows.{plain_rows}
+use Rattle.dmn_rows.specs.Ranked.{least}
+use Rattle.dmn_rows.specs.Row.{plain}
+use Rattle.dmn_rows.specs.Rows.{has_hash, plain_rows}
+use Rattle.dmn_rows.specs.Waiting.{is_unbanned, turn_cmp}
 use Rattle.dmn_sml.specs.Defs.{root_of, simple}
+use Rattle.dmn_standing.specs.Payment.{forecast}
 use Rattle.dmn_branch.specs.declared.tip.Tip.{Tip}
 use Rattle.dmn_branch.specs.Machine.{MachineState, tip, low, top}
 
@@ -18,6 +23,12 @@ pub record Lent : Type 0 where
   pub size : ℕ
   pub rows : List MnRow
 
+-- the same list, of which other rows may still come
+pub record IsSameList (old new : Lent) : Type 0 where
+  pub hash : new.hash ≡ old.hash
+  pub root : new.root ≡ old.root
+  pub size : new.size ≡ old.size
+
 -- it is the list of this state, with all rows still to come
 pub record IsListOf (state : State) (lent : Lent) : Type 0 where
   pub hash : lent.hash ≡ state.hash
@@ -29,3 +40,26 @@ pub record IsListOf (state : State) (lent : Lent) : Type 0 where
 abbrev pub Lends : Lent → Option State → Type 0
 Lends lent None = ⊥
 Lends lent (Some state) = IsListOf state lent
+
+-- ---- what is told of a state by its rows
+
+-- the masternode that this transaction registered
+abbrev pub row_of : Hash256 → State → Option MnRow
+row_of hash state = find (has_hash hash) state.rows
+
+-- who is paid next: of the rows that aren't banned the one whose turn is first
+abbrev pub payee_of : State → Option MnRow
+payee_of state = least turn_cmp (filter is_unbanned state.rows)
+
+-- the next payees, by their hashes
+abbrev pub payees_of : ℕ → State → List Hash256
+payees_of n state = forecast n state.rows
+
+-- there is a state, and this is told of it
+abbrev pub IsToldOf : {X : Type 0} → (State → X) → X → Option State → Type 0
+IsToldOf tell told None = ⊥
+IsToldOf tell told (Some state) = told ≡ tell state
+
+-- a stored row, where one is lent, as it is seen at a height
+abbrev pub seen_at : ℕ → Option MnRow → Option MnRow
+seen_at height = option_map (plain height)

@@ -1,4 +1,5 @@
 pub mod Defs
+pub mod Events
 pub mod Step
 pub mod Replay
 pub mod Machine

@@ -1,17 +1,28 @@
 -- What a branch keeps, and which machine it stands for. This file alone says how lists are kept.
-use Rattle.std.specs.Prelude.{◌≡◌, ℕ, suc, ◌+◌, ◌-◌, ◌≤◌, ◌<◌, max, List, [], ◌∷◌, length, replicate, Ok}
+use Rattle.std.specs.Prelude.{◌≡◌, ℕ, suc, ◌+◌, ◌-◌, ◌≤◌, ◌<◌, false, max, List, [], ◌∷◌, length, replicate, slice_index_or, Ok}
 use Rattle.std.specs.List.{All}
 use Rattle.dmn_block.specs.declared.frame.BlockFrame.{BlockFrame}
 use Rattle.dmn_block.specs.State.{State}
 use Rattle.dmn_bytes.specs.declared.hash.Hash256.{Hash256}
+use Rattle.dmn_bytes.specs.Points.{is_zero}
+use Rattle.dmn_indexes.specs.declared.indexes.Indexes.{Indexes}
+use Rattle.dmn_indexes.specs.Marks.{IsBelow, marks_of}
+use Rattle.dmn_indexes.specs.Version.{rows_in, outputs_in}
+use Rattle.dmn_indexes.specs.Version as versions
+use Rattle.dmn_indexes.specs.Stands as trees
+use Rattle.dmn_branch.specs.declared.held.Held.{Held}
+use Rattle.dmn_branch.specs.declared.held.Prepared.{Prepared}
 use Rattle.dmn_rows.specs.declared.profile.Profile.{Profile}
 use Rattle.dmn_rows.specs.declared.row.MnRow.{MnRow}
 use Rattle.dmn_rows.specs.declared.start.StartRecord.{StartRecord}
 use Rattle.dmn_rows.specs.Distinct.{HasDistinctKeys}
 use Rattle.dmn_rows.specs.Listing.{Listing, IsAscending, OutputsAscend}
 use Rattle.dmn_rows.specs.Rows.{Outputs, plain_rows}
+use Rattle.dmn_rows.specs.Start.{most_outputs}
 use Rattle.dmn_sml.specs.Defs.{root_of, simple}
-use Rattle.dmn_branch.specs.Machine.{MachineState, history, profile, top, tip, with_block, connect}
+use Rattle.dmn_branch.specs.Machine as machine
+use Rattle.dmn_branch.specs.Machine.{MachineState, held_states, profile, top, tip, with_block, connect}
+use Rattle.dmn_branch.specs.Replay.{IsLawful}
 use Rattle.dmn_branch.specs.Step.{most_rows}
 
 -- what is kept of one height: rows with the heights of their penalties, and outputs
@@ -31,22 +42,32 @@ kept_of height hash root list = record { height = height; hash = hash; root = ro
 abbrev pub first_kept : StartRecord → Kept
 first_kept start = record { height = start.first - 1; hash = start.hash; root = record { 0 = replicate 32 0 }; rows = []; outputs = start.outputs }
 
--- what a branch keeps: its lists from the height before the first block on, and how many more there is room for
+-- what is held of one height, read from the arenas
+abbrev pub kept_in : Indexes → Held → Kept
+kept_in ix held = record { height = held.height; hash = held.hash; root = held.root; rows = rows_in ix held.version; outputs = outputs_in ix held.version }
+
+-- what a branch keeps: the versions from the lowest height that is held on, the arenas in which they are held, the lists as
+-- which they read, and how many more versions there is room for
 pub record Keeping : Type 0 where
   pub profile : Profile
   pub first : ℕ
+  pub indexes : Indexes
+  pub held : List Held
   pub lists : List Kept
   pub top : ℕ
   pub room : ℕ
 
--- what the rows and outputs of each height keep: keys are distinct, both ascend strictly, and no penalty is that of a
--- later height
+-- what is kept of each height: the hash isn't zero, the root is that of the rows, keys are distinct, rows and outputs ascend
+-- strictly, no penalty is that of a later height, and there aren't too many rows and outputs
 pub record IsWhole (kept : Kept) : Type 0 where
+  pub hash : is_zero kept.hash.0 ≡ false
+  pub root : kept.root ≡ root_of (simple kept.rows)
   pub keys : HasDistinctKeys kept.rows
   pub rows : IsAscending kept.rows
   pub outputs : OutputsAscend kept.outputs
   pub penalties : All (λ row. row.penalty_at ≤ kept.height) kept.rows
   pub masternodes : length kept.rows ≤ most_rows
+  pub collaterals : length kept.outputs ≤ most_outputs
 
 -- what is kept of a height stands for this state
 pub record StandsAt (kept : Kept) (state : State) : Type 0 where
@@ -64,12 +85,21 @@ AllStand (kept ∷ lists) (state ∷ states) = StandsAt kept state × AllStand l
 AllStand [] (state ∷ states) = ⊥
 AllStand (kept ∷ lists) [] = ⊥
 
--- A branch stands for a machine.
+-- the same of the trees: those of a height are those of its state, the stored rows as they are seen at the height
+abbrev pub AllTreesStand : Indexes → List Held → List State → Type 0
+AllTreesStand ix [] [] = Unit {0}
+AllTreesStand ix (held ∷ rest) (state ∷ states) = trees.StandsAt ix held.version state.height state.rows state.outputs × AllTreesStand ix rest states
+AllTreesStand ix [] (state ∷ states) = ⊥
+AllTreesStand ix (held ∷ rest) [] = ⊥
+
+-- A branch stands for a machine: for the states that are held of it, and the top. No block of the machine's branch is refused.
 pub record StandsFor (branch : Keeping) (m : MachineState) : Type 0 where
   pub profile : branch.profile ≡ profile m
   pub first : branch.first ≡ m.start.first
-  pub lists : AllStand branch.lists (history m)
+  pub lists : AllStand branch.lists (held_states m)
+  pub trees : AllTreesStand branch.indexes branch.held (held_states m)
   pub top : branch.top ≡ top m
+  pub lawful : IsLawful m.start (machine.branch m)
 
 -- what was prepared is the state after this block, which the machine accepts
 pub record IsNext (prepared : Kept) (m : MachineState) (block : BlockFrame) : Type 0 where
@@ -83,22 +113,62 @@ abbrev pub AreFrom : ℕ → List Kept → Type 0
 AreFrom height [] = Unit {0}
 AreFrom height (kept ∷ lists) = (kept.height ≡ height) × AreFrom (suc height) lists
 
--- what each branch keeps: a list at the height before the first block, and one at each height up to the tip
-pub record IsKept (first : ℕ) (lists : List Kept) : Type 0 where
+-- the lowest height that is held, by the first height and the top
+abbrev pub low_of : Profile → ℕ → ℕ → ℕ
+low_of profile first top = max (first - 1) (top - profile.kept)
+
+-- What each branch keeps: a list at the lowest height that is held, and one at each height up to the tip, which is not above
+-- the top. As many heights are held as a tip may go back.
+pub record IsKept (profile : Profile) (first top : ℕ) (lists : List Kept) : Type 0 where
   pub begins : 1 ≤ first
   pub some : 0 < length lists
-  pub heights : AreFrom (first - 1) lists
+  pub heights : AreFrom (low_of profile first top) lists
+  pub tip : low_of profile first top + length lists ≤ top + 1
+  pub deep : profile.depth ≤ profile.kept
+
+-- The versions are whole, each lies below the marks of its height and of each later one, and each list keeps what lists keep.
+pub record AreSound (ix : Indexes) (held : List Held) : Type 0 where
+  pub versions : All (λ h. versions.IsWhole ix h.version) held
+  pub below : (i j : ℕ) (d : Held) → i ≤ j → j < length held → IsBelow (slice_index_or held j d).marks (slice_index_or held i d).version
+  pub wholes : All (λ h. IsWhole (kept_in ix h)) held
+
+-- What is held of before is held, and reads as before. Only the arenas, and the room, may have grown.
+pub record IsLeft (old new : Keeping) : Type 0 where
+  pub profile : new.profile ≡ old.profile
+  pub first : new.first ≡ old.first
+  pub held : new.held ≡ old.held
+  pub lists : new.lists ≡ old.lists
+  pub top : new.top ≡ old.top
 
 -- the lowest height that is held
 abbrev pub low_kept : Keeping → ℕ
-low_kept branch = max (branch.first - 1) (branch.top - branch.profile.kept)
+low_kept branch = low_of branch.profile branch.first branch.top
+
+-- the height of the tip
+abbrev pub tip_kept : Keeping → ℕ
+tip_kept branch = low_kept branch + length branch.lists - 1
 
 -- the height is one of those that are held
 pub record IsHeld (branch : Keeping) (height : ℕ) : Type 0 where
   pub low : low_kept branch ≤ height
-  pub high : height < branch.first - 1 + length branch.lists
+  pub high : height < low_kept branch + length branch.lists
 
--- the branch is as it was when this was prepared: it is the next list, and there is room for it
-pub record IsReady (branch : Keeping) (prepared : Kept) : Type 0 where
-  pub next : prepared.height ≡ branch.first - 1 + length branch.lists
+-- the height below which the tip never goes
+abbrev pub floor_kept : Keeping → ℕ
+floor_kept branch = max (branch.first - 1) (branch.top - branch.profile.depth)
+
+-- the tip may be taken back: there is a block, and it is not as deep below the top as blocks stay
+pub record IsAboveFloor (branch : Keeping) : Type 0 where
+  pub above : floor_kept branch < tip_kept branch
+
+-- the list of a version that was prepared in the arenas of a branch
+abbrev pub prepared_in : Keeping → Prepared → Kept
+prepared_in branch prepared = kept_in branch.indexes prepared.next
+
+-- The branch is as it was when this was prepared: it is the next version, and there is room for it.
+pub record IsReady (branch : Keeping) (prepared : Prepared) : Type 0 where
+  pub next : prepared.next.height ≡ low_kept branch + length branch.lists
   pub room : 0 < branch.room
+  pub version : versions.IsWhole branch.indexes prepared.next.version
+  pub marks : prepared.next.marks ≡ marks_of branch.indexes
+  pub whole : IsWhole (prepared_in branch prepared)

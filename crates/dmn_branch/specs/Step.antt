@@ -1,29 +1,35 @@
 -- The state after a block, or the rule that refuses it (DIP-0003, DIP-0004).
-use Rattle.std.specs.Prelude.{ℕ, ◌+◌, ◌-◌, ◌==◌, not, nat_lt, List, [], ◌∷◌, length, drop, map, find, Option, None, Some, Result, Ok, Err, if◌then◌else◌}
+use Rattle.std.specs.Prelude.{ℕ, ◌+◌, ◌==◌, not, nat_lt, List, [], ◌∷◌, length, drop, find, Option, None, Some, Result, Ok, Err, if◌then◌else◌}
 use Rattle.std.specs.Result.{result_ok}
 use Rattle.std.specs.Str.{bytes_eq}
 use Rattle.dmn_block.specs.declared.frame.BlockFrame.{BlockFrame}
-use Rattle.dmn_block.specs.Shape.{Refusal, Numbered, unnumbered, first_broken, of_block, broken_rule}
+use Rattle.dmn_block.specs.declared.refusal.Refusal.{Refusal}
+use Rattle.dmn_block.specs.Shape.{Numbered, when, first_of, by_block, by_tx, broken_rule}
 use Rattle.dmn_block.specs.Spend.{spend}
 use Rattle.dmn_block.specs.State.{State, origin}
 use Rattle.dmn_bytes.specs.declared.hash.Hash256.{Hash256}
 use Rattle.dmn_bytes.specs.Format.{whole}
 use Rattle.dmn_payloads.specs.Payloads.{cb}
 use Rattle.dmn_payloads.specs.declared.payloads.CbTx.{CbTx}
+use Rattle.dmn_rows.specs.declared.limits.TheConstants.{MOST_MASTERNODES}
 use Rattle.dmn_rows.specs.declared.profile.Profile.{Profile}
 use Rattle.dmn_rows.specs.declared.row.MnRow.{MnRow}
 use Rattle.dmn_rows.specs.declared.rule.Rule.{Rule}
-use Rattle.dmn_rows.specs.declared.rule.Rule.TheVariants.{TooManyMasternodes, TooManyOutputs, CbRoot}
+use Rattle.dmn_rows.specs.declared.rule.Rule.TheVariants.{TooManyChanges, TooManyMasternodes, TooManyOutputs, CbRoot}
 use Rattle.dmn_rows.specs.declared.start.StartRecord.{StartRecord}
 use Rattle.dmn_rows.specs.declared.verdict.Verdict.{Verdict}
 use Rattle.dmn_rows.specs.Listing.{Listing}
-use Rattle.dmn_rows.specs.Profile.{small_profile, main_profile}
+use Rattle.dmn_rows.specs.Profile.{small_profile, main_profile, confirm_wait}
 use Rattle.dmn_rows.specs.Rows.{Outputs}
 use Rattle.dmn_rows.specs.Start.{most_outputs}
 use Rattle.dmn_rules.specs.Defs.{judge_of, effect_of}
 use Rattle.dmn_sml.specs.Defs.{root_of, simple}
+use Rattle.dmn_standing.specs.Payment.{payee}
+use Rattle.dmn_standing.specs.Standing.{confirmed, decreased, paid}
 use Rattle.dmn_tx.specs.declared.tx.Tx.{Tx}
 use Rattle.dmn_tx.specs.Tx.{is_special}
+use Rattle.dmn_branch.specs.declared.limits.TheConstants.{MOST_EVENTS}
+use Rattle.dmn_branch.specs.Events.{confirmations, once_there, tx_events, spend_events}
 
 -- ---- stages, joined so that the first that refuses decides
 
@@ -35,11 +41,17 @@ abbrev pub unless : {X : Type 0} → Option Refusal → X → Result X Refusal
 unless None x = Ok x
 unless (Some refusal) x = Err refusal
 
--- ---- penalties, one block later
+-- ---- what the stages hand on
 
--- The penalty of a row that isn't banned falls by one, down to 0.
-abbrev pub decrease : MnRow → MnRow
-decrease row = record row { penalty = if row.banned == 0 then row.penalty - 1 else row.penalty }
+-- the rows, and how many events there were so far
+pub record Counted : Type 0 where
+  pub rows : List MnRow
+  pub events : ℕ
+
+-- the rows and outputs after a block, and how many events it had
+pub record Outcome : Type 0 where
+  pub list : Listing
+  pub events : ℕ
 
 -- ---- transactions
 
@@ -56,27 +68,42 @@ abbrev pub verdict_on : ℕ → List Verdict → Option Verdict
 verdict_on place = find (λ v. v.tx == place)
 
 -- what follows where this rule is broken, or none
-abbrev pub judged : ℕ → Option Rule → List MnRow → Result (List MnRow) Refusal
-judged place None rows = Ok rows
-judged place (Some rule) rows = Err (rule, Some place)
+abbrev pub judged : ℕ → Option Rule → Counted → Result Counted Refusal
+judged place None next = Ok next
+judged place (Some rule) next = Err (by_tx place rule)
+
+-- the rows after a transaction that is accepted, with its events
+abbrev pub changed_by : Setting → Tx → Counted → Counted
+changed_by s tx now = record { rows = effect_of now.rows s.outputs tx s.height; events = now.events + tx_events now.rows s.outputs tx s.height }
 
 -- the rows after the transaction at a place, which only a special one changes
-unfoldable pub transaction : Setting → ℕ → Tx → List MnRow → Result (List MnRow) Refusal
-transaction s place tx rows =
+unfoldable pub transaction : Setting → ℕ → Tx → Counted → Result Counted Refusal
+transaction s place tx now =
     if is_special tx.version tx.kind
-    then judged place (judge_of s.profile rows s.outputs s.height tx (verdict_on place s.verdicts)) (effect_of rows s.outputs tx s.height)
-    else Ok rows
+    then judged place (judge_of s.profile now.rows s.outputs s.height tx (verdict_on place s.verdicts)) (changed_by s tx now)
+    else Ok now
 
 -- the rows after these transactions, the first of which stands at this place; each finds the rows that the ones before left
-abbrev pub transactions : Setting → ℕ → List Tx → List MnRow → Result (List MnRow) Refusal
-transactions s place [] rows = Ok rows
-transactions s place (tx ∷ txs) rows = and_then (transaction s place tx rows) (transactions s (place + 1) txs)
+abbrev pub transactions : Setting → ℕ → List Tx → Counted → Result Counted Refusal
+transactions s place [] now = Ok now
+transactions s place (tx ∷ txs) now = and_then (transaction s place tx now) (transactions s (place + 1) txs)
 
--- ---- the last rules, by the rows and outputs after the block
+-- ---- payment
+
+-- the rows, where the one of the hash was paid at this height
+abbrev pub marked : ℕ → Option Hash256 → List MnRow → List MnRow
+marked height None rows = rows
+marked height (Some hash) rows = paid height hash rows
+
+-- ---- the last rules, by the rows and outputs after the block, and by its events
+
+-- as many events as a block may have
+abbrev pub most_events : ℕ
+most_events = MOST_EVENTS
 
 -- as many masternodes as there may be
 abbrev pub most_rows : ℕ
-most_rows = 65535
+most_rows = MOST_MASTERNODES
 
 -- the payload of the first transaction, where that is a coinbase's
 abbrev pub coinbase_in : List Tx → Option CbTx
@@ -86,13 +113,14 @@ coinbase_in (first ∷ txs) = result_ok (whole cb first.payload)
 -- the coinbase commits to another root than that of the simplified list
 abbrev pub other_root : Option CbTx → Hash256 → Option Refusal
 other_root None root = None
-other_root (Some value) root = of_block (not (bytes_eq value.rows.0 root.0)) (CbRoot value.rows root)
+other_root (Some value) root = when (not (bytes_eq value.rows.0 root.0)) (by_block (CbRoot value.rows root))
 
-unfoldable pub last_rules : Option CbTx → Listing → Numbered
+unfoldable pub last_rules : Option CbTx → Outcome → Numbered
 last_rules coinbase after =
-    (82, of_block (nat_lt most_rows (length after.rows)) TooManyMasternodes)
-    ∷ (83, of_block (nat_lt most_outputs (length after.outputs)) TooManyOutputs)
-    ∷ (84, other_root coinbase (root_of (simple after.rows)))
+    (81, when (nat_lt most_events after.events) (by_block TooManyChanges))
+    ∷ (82, when (nat_lt most_rows (length after.list.rows)) (by_block TooManyMasternodes))
+    ∷ (83, when (nat_lt most_outputs (length after.list.outputs)) (by_block TooManyOutputs))
+    ∷ (84, other_root coinbase (root_of (simple after.list.rows)))
     ∷ []
 
 -- ---- one block more
@@ -107,21 +135,51 @@ state_of tip block after = record { height = tip.height + 1; hash = block.hash; 
 unfoldable pub shaped : State → BlockFrame → Result (List MnRow) Refusal
 shaped tip block = unless (broken_rule block tip.hash tip.height) tip.rows
 
--- 2 is to confirm rows. 3: penalties fall. 4: the transactions behind the coinbase. 5 is the duty to mine commitments.
-unfoldable pub transacted : Profile → State → BlockFrame → List MnRow → Result (List MnRow) Refusal
-transacted profile tip block rows = transactions (setting_of profile tip block) 1 (drop 1 block.txs) (map decrease rows)
+-- 2: the rows that are due are confirmed by the hash of the block before. 3: penalties fall.
+unfoldable pub stood : State → List MnRow → Counted
+stood tip rows = record {
+  rows = decreased (confirmed confirm_wait (tip.height + 1) tip.hash rows);
+  events = confirmations confirm_wait (tip.height + 1) rows;
+}
+
+-- 4: the transactions behind the coinbase. 5 is the duty to mine commitments.
+unfoldable pub transacted : Profile → State → BlockFrame → Counted → Result Counted Refusal
+transacted profile tip block = transactions (setting_of profile tip block) 1 (drop 1 block.txs)
 
 -- 6: inputs and outputs, the coinbase's too
-unfoldable pub spent : State → BlockFrame → List MnRow → Listing
-spent tip block rows = spend block.txs (record { rows = rows; outputs = tip.outputs })
+unfoldable pub spent : State → BlockFrame → Counted → Outcome
+spent tip block now =
+    let list : Listing = record { rows = now.rows; outputs = tip.outputs } in
+    record { list = spend block.txs list; events = now.events + spend_events block.txs list }
 
--- 7 is to mark who was paid. 8: the last rules
-unfoldable pub closed : State → BlockFrame → Listing → Result State Refusal
-closed tip block after = unless (first_broken (unnumbered (last_rules (coinbase_in block.txs) after))) (state_of tip block after)
+-- 7: the masternode whose turn it was by the rows of the block before is marked as paid, where its row is still there
+unfoldable pub after_payment : State → Outcome → Outcome
+after_payment tip now = record {
+  list = record now.list { rows = marked (tip.height + 1) (payee tip.rows) now.list.rows };
+  events = now.events + once_there (payee tip.rows) now.list.rows;
+}
+
+-- the rows and outputs after the block, where no rule before the last ones refuses it
+unfoldable pub outcome : Profile → State → BlockFrame → Result Outcome Refusal
+outcome profile tip block =
+    and_then (shaped tip block)
+    (λ rows. and_then (transacted profile tip block (stood tip rows)) (λ now. Ok (after_payment tip (spent tip block now))))
+
+-- 8: the last rules
+unfoldable pub closed : State → BlockFrame → Outcome → Result State Refusal
+closed tip block after = unless (first_of (last_rules (coinbase_in block.txs) after)) (state_of tip block after.list)
 
 -- the state after a block on this one, or the first rule that the block breaks, with the transaction that it names
 unfoldable pub step_from : Profile → State → BlockFrame → Result State Refusal
-step_from profile tip block = and_then (shaped tip block) (λ rows. and_then (transacted profile tip block rows) (λ rows. closed tip block (spent tip block rows)))
+step_from profile tip block = and_then (outcome profile tip block) (closed tip block)
+
+abbrev pub events_in : Result Outcome Refusal → ℕ
+events_in (Ok after) = after.events
+events_in (Err refusal) = 0
+
+-- how many events a block on this state has, where no rule before the last ones refuses it
+abbrev pub events_from : Profile → State → BlockFrame → ℕ
+events_from profile tip block = events_in (outcome profile tip block)
 
 -- the profile of a start record, by its number
 abbrev pub profile_of : StartRecord → Profile

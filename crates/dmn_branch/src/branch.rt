@@ -1,65 +1,61 @@
-//! A branch: the lists of the heights that are held, and one block more.
+//! A branch: the lists of the heights that are held, one block more, and one less.
 
-ghost use Rattle.std.specs.Prelude.{◌≡◌, ℕ, ◌+◌, ◌-◌, ◌≤◌, ◌&&◌, [], Some, IfOk, IfErr, OnOk, find, length, max, nat_le, slice_get};
-ghost use Rattle.std.specs.Option.{option_map};
+ghost use Rattle.std.specs.Prelude.{◌≡◌, ℕ, ◌*◌, ◌+◌, ◌-◌, ◌≤◌, ◌&&◌, [], Some, IfOk, IfErr, IfSome, OnOk, OnErr, find, length, max, nat_le, slice_get, ◌<◌, Ok, Err, drop};
+ghost use Rattle.std.specs.Option.{option_copied, option_map};
 ghost use Rattle.std.specs.Str.{bytes_eq};
 ghost use Rattle.dmn_block.specs.Defs.{IsBlock};
 ghost use Rattle.dmn_block.specs.declared.frame.BlockFrame.{BlockFrame};
+ghost use Rattle.dmn_bytes.specs.declared.hash.Hash256.{Hash256};
+ghost use Rattle.dmn_indexes.specs.Marks.{Cut, SameNodes};
+ghost use Rattle.dmn_indexes.specs.Version.{GrownBy};
+ghost use Rattle.dmn_indexes.specs.Version as versions;
 ghost use Rattle.dmn_rows.specs.declared.profile.Profile.{Profile};
 ghost use Rattle.dmn_rows.specs.Defs.{KeepsBounds};
 ghost use Rattle.dmn_rows.specs.Listing.{OutputsAscend};
 ghost use Rattle.dmn_rows.specs.Start.{start_record};
-ghost use Rattle.dmn_branch.specs.Asked.{told, Lends};
+ghost use Rattle.dmn_branch.specs.Asked.{told, Lends, IsToldOf, payee_of, payees_of, row_of, seen_at};
+ghost use Rattle.dmn_branch.specs.declared.held.Held.{Held};
 ghost use Rattle.dmn_branch.specs.Fault.{Tells, TellsRule};
 ghost use Rattle.dmn_branch.specs.Machine as machine;
 ghost use Rattle.dmn_branch.specs.Machine.{MachineState};
-ghost use Rattle.dmn_branch.specs.Stands.{StandsFor, IsNext, IsReady, IsHeld, first_kept, low_kept};
-ghost use Rattle.dmn_branch.specs.Step.{profile_of as profile_by};
+ghost use Rattle.dmn_branch.specs.Parts.{StandsIn};
+ghost use Rattle.dmn_branch.specs.Stands.{StandsFor, IsNext, IsReady, IsHeld, IsLeft, kept_in, low_kept, prepared_in, IsAboveFloor, low_of, floor_kept};
+ghost use Rattle.dmn_branch.specs.Step.{profile_of as profile_by, most_rows};
 
-use crate::fault::PrepareFault;
-use crate::height_list::HeightList;
+use crate::asked::{payees_of, row_of};
+use crate::fault::{DisconnectRefusal, PrepareFault};
+use crate::held::{Held, Prepared};
 use crate::listing::Listing;
-use crate::step::step;
+use crate::origin::origin;
+use crate::step::advance;
 use crate::tip::Tip;
-use dmn_block::BlockFrame;
-use dmn_bytes::{Hash256, Items, Memory, is_zero};
-use dmn_rows::{Profile, RowList, Rule, StartRecord, profile_of};
+use dmn_block::{BlockFrame, Refusal};
+use dmn_bytes::{Hash256, Memory, is_zero};
+use dmn_indexes::Indexes;
+use dmn_rows::{MnRow, Profile, Rule, StartRecord, profile_of};
 use std::alloc::Global;
 use std::marker::Model;
 
-/// The state of each height that is held, from a start record on.
+/// The version of each height that is held, from a start record on.
 #[derive(Drop)]
 pub struct Branch {
     profile: Profile,
     first: u32,
-    // From the height before the first block on.
-    lists: Vec<HeightList>,
+    indexes: Indexes,
+    // From the lowest height that is held to the tip's.
+    held: Vec<Held>,
     top: u32,
 }
 
 impl Model for Branch {
-    ghost use Rattle.std.specs.Prelude.{◌-◌, vec_len, vec_capacity};
-    ghost use Rattle.dmn_branch.specs.Stands.{Keeping, IsKept};
+    ghost use Rattle.std.specs.Prelude.{◌-◌, map, vec_len, vec_capacity};
+    ghost use Rattle.dmn_branch.specs.Stands.{Keeping, IsKept, AreSound, kept_in};
 
     ghost Value = { Keeping };
 
-    ghost view = { λ a. record { profile = a.profile; first = a.first; lists = a.lists.items; top = a.top; room = vec_capacity a.lists - vec_len a.lists } };
+    ghost view = { λ a. record { profile = a.profile; first = a.first; indexes = a.indexes; held = a.held.items; lists = map (kept_in a.indexes) a.held.items; top = a.top; room = vec_capacity a.held - vec_len a.held } };
 
-    ghost invariant = { λ a. IsKept a.first a.lists.items };
-}
-
-/// The state after a block, which is not added yet.
-#[derive(Debug, Drop)]
-pub struct Prepared {
-    next: HeightList,
-}
-
-impl Model for Prepared {
-    ghost use Rattle.dmn_branch.specs.Stands.{Kept};
-
-    ghost Value = { Kept };
-
-    ghost view = { λ a. a.next };
+    ghost invariant = { λ a. IsKept a.profile a.first a.top (map (kept_in a.indexes) a.held.items) × AreSound a.indexes a.held.items };
 }
 
 // The profile of a start record.
@@ -73,26 +69,32 @@ fn profile_by(start: &StartRecord) -> Profile
     }
 }
 
-// The state before the first block: no rows, and the outputs of the start record.
-#[tactic(auto, using(crate::proofs::Starting::first_whole))]
-fn origin(alloc: Global, start: &StartRecord) -> Result<HeightList, Memory>
-    requires bounds { KeepsBounds start.now }
-    requires ascending { OutputsAscend start.now.outputs }
-    ensures { IfOk result (λ list. list ≡ first_kept start.now) }
+// The height whose block has the hash.
+fn height_in(held: &[Held], hash: &Hash256) -> Option<u32>
+    ensures { result ≡ option_map (λ h. h.height) (find (λ h. bytes_eq h.hash.0 hash.now.0) held.now) }
 {
-    let outputs = Vec::from_slice(alloc, start.outputs.as_slice())?;
-    let list = RowList::from_outputs(alloc, Items::from_vec(outputs));
-    Ok(HeightList::new(start.first - 1, start.hash, Hash256([0; 32]), list))
+    held.iter()
+        .find(|held| held.hash == *hash)
+        .map(|held| held.height)
 }
 
-// The height, from this one on, whose block has the hash.
-fn height_in(lists: &[HeightList], low: u32, hash: &Hash256) -> Option<u32>
-    ensures { result ≡ option_map (λ list. list.height) (find (λ list. nat_le low list.height && bytes_eq list.hash.0 hash.now.0) lists.now) }
+// The lowest height that is held.
+fn low_of(profile: &Profile, first: u32, top: u32) -> u32
+    requires { 1 ≤ first }
+    ensures { result ≡ low_of profile.now first top }
 {
-    lists
-        .iter()
-        .find(|list| low <= list.height() && list.hash() == *hash)
-        .map(|list| list.height())
+    (first - 1).max(top.saturating_sub(profile.kept))
+}
+
+// Of versions from one height on, keeps those from another on, which is at most one height above it.
+fn keep_from(held: &mut Vec<Held>, height: u32, low: u32)
+    requires some { 0 < length held.old.items }
+    requires next { low ≤ height + 1 }
+    ensures { held.new.items ≡ drop (low - height) held.old.items }
+{
+    if height < low {
+        held.remove(0);
+    }
 }
 
 impl Branch {
@@ -100,25 +102,36 @@ impl Branch {
     #[tactic(auto, using(crate::proofs::Starting::start_bounds, crate::proofs::Starting::start_ascends, crate::proofs::Starting::start_stands))]
     pub fn start(alloc: Global, start: &StartRecord) -> Result<Branch, Memory>
         requires { start_record.Fits start.now }
-        ensures { IfOk result (λ branch. StandsFor branch (record { start = start.now; blocks = [] })) }
+        ensures { IfOk result (λ branch. StandsFor branch (record { start = start.now; commands = [] })) }
     {
-        let mut lists = Vec::new(alloc);
-        lists.push(origin(alloc, start)?).map_err(|_| Memory)?;
+        let mut indexes = Indexes::new(alloc);
+        let first = origin(alloc, start, &mut indexes)?;
+        let mut held = Vec::new(alloc);
+        held.push(first).map_err(|_| Memory)?;
         Ok(Branch {
             profile: profile_by(start),
             first: start.first,
-            lists,
+            indexes,
+            held,
             top: start.first - 1,
         })
     }
 
-    // The list at the tip.
-    fn last(&self) -> &HeightList
-        ensures last { slice_get self.now.lists (length self.now.lists - 1) ≡ Some result.now }
-        ensures height { result.now.height + 1 ≡ self.now.first - 1 + length self.now.lists }
+    /// The height of the first block.
+    pub fn first(&self) -> u32
+        ensures { (m : MachineState) → StandsFor self.now m → result ≡ m.start.first }
     {
-        match self.lists.last() {
-            Some(list) => list,
+        self.first
+    }
+
+    // What is held of the tip.
+    fn last(&self) -> &Held
+        ensures held { slice_get self.now.held (length self.now.held - 1) ≡ Some result.now }
+        ensures last { slice_get self.now.lists (length self.now.lists - 1) ≡ Some (kept_in self.now.indexes result.now) }
+        ensures height { result.now.height + 1 ≡ low_kept self.now + length self.now.lists }
+    {
+        match self.held.last() {
+            Some(held) => held,
             None => unreachable!(),
         }
     }
@@ -127,7 +140,7 @@ impl Branch {
     fn low(&self) -> u32
         ensures { result ≡ low_kept self.now }
     {
-        (self.first - 1).max(self.top.saturating_sub(self.profile.kept))
+        low_of(&self.profile, self.first, self.top)
     }
 
     /// The tip, and which heights are held.
@@ -137,8 +150,8 @@ impl Branch {
     {
         let last = self.last();
         Tip {
-            height: last.height(),
-            hash: last.hash(),
+            height: last.height,
+            hash: last.hash,
             low: self.low(),
             top: self.top,
         }
@@ -146,7 +159,8 @@ impl Branch {
 
     /// The height below which the tip never goes.
     pub fn floor(&self) -> u32
-        ensures { (m : MachineState) → StandsFor self.now m → result ≡ machine.floor m }
+        ensures floor { (m : MachineState) → StandsFor self.now m → result ≡ machine.floor m }
+        ensures kept { result ≡ floor_kept self.now }
     {
         (self.first - 1).max(self.top.saturating_sub(self.profile.depth))
     }
@@ -160,9 +174,21 @@ impl Branch {
 
     /// The height that is held and whose block has the hash.
     pub fn height_of(&self, hash: &Hash256) -> Option<u32>
-        ensures { (m : MachineState) → StandsFor self.now m → result ≡ machine.height_of m hash.now }
+        ensures height { (m : MachineState) → StandsFor self.now m → result ≡ machine.height_of m hash.now }
+        ensures held { IfSome result (IsHeld self.now) }
     {
-        height_in(&self.lists, self.low(), hash)
+        height_in(&self.held, hash)
+    }
+
+    // What is held of a height.
+    fn held_at(&self, height: u32) -> &Held
+        requires { IsHeld self.now height }
+        ensures stands { (m : MachineState) → StandsFor self.now m → StandsIn (kept_in self.now.indexes result.now) (machine.state_at m height) }
+        ensures height { result.now.height ≡ height }
+        ensures whole { versions.IsWhole self.now.indexes result.now.version }
+        ensures few { length (versions.rows_in self.now.indexes result.now.version) ≤ most_rows }
+    {
+        &self.held[(height - self.low()) as usize]
     }
 
     /// The list of masternodes at a height that is held.
@@ -170,26 +196,62 @@ impl Branch {
         requires { IsHeld self.now height }
         ensures { (m : MachineState) → StandsFor self.now m → Lends result (machine.state_at m height) }
     {
-        let list = &self.lists[(height - (self.first - 1)) as usize];
-        Listing::of(list)
+        Listing::of(&self.indexes, self.held_at(height))
+    }
+
+    /// The masternode that this transaction registered, at a height that is held. None exactly where the list has no such
+    /// row. Its penalty is that after the block `penalty_at`.
+    pub fn row_at(&self, height: u32, hash: &Hash256) -> Option<&MnRow>
+        requires { IsHeld self.now height }
+        ensures { (m : MachineState) → StandsFor self.now m → IsToldOf (row_of hash.now) (seen_at height (option_copied result)) (machine.state_at m height) }
+    {
+        row_of(&self.indexes, &self.held_at(height).version, hash)
+    }
+
+    /// The masternode that is paid next after a height that is held: of those that aren't banned, the one that waits
+    /// longest. None exactly where all are banned. Its penalty is that after the block `penalty_at`.
+    pub fn payee_at(&self, height: u32) -> Option<&MnRow>
+        requires { IsHeld self.now height }
+        ensures { (m : MachineState) → StandsFor self.now m → IsToldOf payee_of (seen_at height (option_copied result)) (machine.state_at m height) }
+    {
+        self.indexes.least_pay(&self.held_at(height).version, 0)
+    }
+
+    /// The hashes of the next `count` masternodes to be paid after a height that is held, fewer where fewer aren't
+    /// banned, as if each block paid the first of them.
+    pub fn payees_at(&self, alloc: Global, height: u32, count: u16) -> Result<Vec<Hash256>, Memory>
+        requires { IsHeld self.now height }
+        ensures payees { (m : MachineState) → StandsFor self.now m → IfOk result (λ hashes. IsToldOf (payees_of count) hashes.items (machine.state_at m height)) }
+        ensures few { IfOk result (λ hashes. length hashes.items ≤ count) }
+    {
+        payees_of(alloc, &self.indexes, &self.held_at(height).version, count)
     }
 
     /// Judges a block that is to follow the tip, and makes the state after it, and room for that. What is held stays as
-    /// it is.
+    /// it is, and reads as before.
     pub fn prepare(&mut self, alloc: Global, block: &BlockFrame) -> Result<Prepared, PrepareFault>
         requires { IsBlock block.now }
         // What is prepared is the state after the block, which the machine accepts.
-        ensures next { (m : MachineState) → StandsFor self.old m → IfOk result (λ prepared. IsNext prepared m block.now) }
+        ensures next { (m : MachineState) → StandsFor self.old m → IfOk result (λ prepared. IsNext (prepared_in self.new prepared) m block.now) }
         // It is refused exactly as the machine refuses it, unless memory runs out.
         ensures refused { (m : MachineState) → StandsFor self.old m → IfErr result (Tells (machine.connect m block.now)) }
         ensures same { (m : MachineState) → StandsFor self.old m → StandsFor self.new m }
         ensures ready { IfOk result (IsReady self.new) }
+        // What is left of the branch is what it was, but for room and the nodes of what is prepared.
+        ensures left { IsLeft self.old self.new }
+        // Each event adds at most 232 nodes to each arena; a block that isn't accepted leaves none.
+        ensures events { (m : MachineState) → StandsFor self.old m → IfOk result (λ prepared. prepared.events ≡ machine.events m block.now) }
+        ensures grown { IfOk result (λ prepared. GrownBy (232 * prepared.events) self.old.indexes self.new.indexes) }
+        ensures same_nodes { OnErr result (SameNodes self.old.indexes self.new.indexes) }
     {
         self.check_hash(&block.hash)?;
-        let next = step(alloc, &self.profile, self.last(), block)?;
-        match self.lists.reserve(1) {
-            Ok(()) => Ok(Prepared { next }),
-            Err(_) => Err(PrepareFault::Memory),
+        let last = *self.last();
+        if self.held.reserve(1).is_err() {
+            return Err(PrepareFault::Memory);
+        }
+        match advance(alloc, &self.profile, &mut self.indexes, &last, block) {
+            Ok(prepared) => Ok(prepared),
+            Err(fault) => Err(fault),
         }
     }
 
@@ -199,34 +261,84 @@ impl Branch {
         ensures known { (m : MachineState) → StandsFor self.now m → IfErr result (TellsRule (machine.broken_hash m hash.now)) }
     {
         if is_zero(&hash.0) {
-            return Err(PrepareFault::Refused {
+            return Err(PrepareFault::Refused(Refusal {
                 rule: Rule::ZeroHash,
                 tx: None,
-            });
+            }));
         }
         match self.height_of(hash) {
             None => Ok(()),
-            Some(height) => Err(PrepareFault::Refused {
+            Some(height) => Err(PrepareFault::Refused(Refusal {
                 rule: Rule::HashKnown { height },
                 tx: None,
-            }),
+            })),
         }
     }
 
-    /// Adds the block that was prepared, where nothing was changed since. This takes no memory.
+    /// Adds the block that was prepared, where nothing was changed since, and lets the version go that is held no longer.
+    /// This takes no memory.
     pub fn commit(&mut self, prepared: Prepared)
         requires { IsReady self.old prepared }
-        ensures { (m : MachineState) (block : BlockFrame) → StandsFor self.old m → IsNext prepared m block → StandsFor self.new (machine.with_block m block) }
+        ensures { (m : MachineState) (block : BlockFrame) → StandsFor self.old m → IsNext (prepared_in self.old prepared) m block → StandsFor self.new (machine.with_block m block) }
     {
-        let Prepared { next } = prepared;
-        self.top = self.top.max(next.height());
-        self.lists.push_reserved(next);
+        let Prepared { next, .. } = prepared;
+        let low = self.low();
+        self.top = self.top.max(next.height);
+        self.held.push_reserved(next);
+        keep_from(
+            &mut self.held,
+            low,
+            low_of(&self.profile, self.first, self.top),
+        );
     }
 
-    /// Leaves the block that was prepared.
+    /// Leaves the block that was prepared, and cuts its nodes off.
     pub fn abandon(&mut self, prepared: Prepared)
         ensures { (m : MachineState) → StandsFor self.old m → StandsFor self.new m }
     {
         let _ = prepared;
+        self.cut();
+    }
+
+    // Cuts each arena back to the nodes that it had at the tip.
+    fn cut(&mut self)
+        ensures left { IsLeft self.old self.new }
+        ensures same { (m : MachineState) → StandsFor self.old m → StandsFor self.new m }
+        ensures cut { (tip : Held) → slice_get self.new.held (length self.new.held - 1) ≡ Some tip → Cut tip.marks self.old.indexes self.new.indexes }
+    {
+        let marks = self.last().marks;
+        self.indexes.cut(&marks);
+    }
+
+    /// Whether the last block, which is to have this hash, may be taken back: else why not.
+    pub fn check_disconnect(&self, hash: &Hash256) -> Result<(), DisconnectRefusal>
+        // It is refused exactly as the machine refuses it.
+        ensures refused { (m : MachineState) → StandsFor self.now m → IfErr result (λ refusal. machine.disconnect m hash.now ≡ Err refusal) }
+        ensures accepted { (m : MachineState) → StandsFor self.now m → OnOk result (machine.disconnect m hash.now ≡ Ok (machine.without_tip m hash.now)) }
+        ensures above { OnOk result (IsAboveFloor self.now) }
+    {
+        let last = self.last();
+        let floor = self.floor();
+        if last.hash != *hash {
+            return Err(DisconnectRefusal::NotTip { tip: last.hash });
+        }
+        if last.height < self.first {
+            return Err(DisconnectRefusal::AtStart);
+        }
+        if last.height <= floor {
+            return Err(DisconnectRefusal::TooDeep { floor });
+        }
+        Ok(())
+    }
+
+    /// Takes the last block back: what is held is as before it, and the top stays. This takes no memory, and cuts each arena
+    /// back to the nodes that it had at the height before.
+    pub fn disconnect(&mut self)
+        requires { IsAboveFloor self.old }
+        ensures stands { (m : MachineState) (hash : Hash256) → StandsFor self.old m → StandsFor self.new (machine.without_tip m hash) }
+        ensures cut { (tip : Held) → slice_get self.new.held (length self.new.held - 1) ≡ Some tip → Cut tip.marks self.old.indexes self.new.indexes }
+    {
+        self.held.pop();
+        self.cut();
     }
 }

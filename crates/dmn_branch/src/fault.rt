@@ -1,16 +1,32 @@
-//! Why a block could not be prepared.
+//! Why a block could not be prepared, and why one is not taken back.
 
-use dmn_block::ShapeFault;
-use dmn_bytes::Memory;
-use dmn_rows::Rule;
+use dmn_block::{Refusal, ShapeFault};
+use dmn_bytes::{Hash256, Memory};
+use thiserror::Error;
 
 /// Why a block could not be prepared. The branch is as before.
-#[derive(Clone, Copy, Debug, PartialEq, Eq)]
+#[derive(Clone, Copy, Debug, PartialEq, Eq, Error)]
 pub enum PrepareFault {
-    /// The first rule that the block breaks, and the place of the transaction that the rule names.
-    Refused { rule: Rule, tx: Option<u32> },
+    /// By the first rule that the block breaks.
+    #[error("the block is refused: {0}")]
+    Refused(Refusal),
     /// Memory ran out.
+    #[error("memory ran out")]
     Memory,
+}
+
+/// Why the last block is not taken back.
+#[derive(Clone, Copy, Debug, PartialEq, Eq, Error)]
+pub enum DisconnectRefusal {
+    /// The last block has another hash, which is this.
+    #[error("the last block has another hash")]
+    NotTip { tip: Hash256 },
+    /// There is no block.
+    #[error("there is no block")]
+    AtStart,
+    /// The tip stands at this floor, or below: no block at or below it is taken back.
+    #[error("no block at or below height {floor} is taken back")]
+    TooDeep { floor: u32 },
 }
 
 impl From<Memory> for PrepareFault {
@@ -32,7 +48,7 @@ impl From<ShapeFault> for PrepareFault {
 
     fn from(fault: ShapeFault) -> PrepareFault {
         match fault {
-            ShapeFault::Broken(rule, tx) => PrepareFault::Refused { rule, tx },
+            ShapeFault::Broken(refusal) => PrepareFault::Refused(refusal),
             ShapeFault::Memory => PrepareFault::Memory,
         }
     }

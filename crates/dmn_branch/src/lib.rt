@@ -1,18 +1,26 @@
 //! The state after each block, prepared and then added; and what is asked of the heights that are held.
 #![tactic(auto)]
 
+mod asked;
 mod branch;
+mod confirm;
 mod fault;
-mod height_list;
+mod held;
+mod law;
+mod limits;
 mod listing;
+mod mark;
+mod origin;
+mod setting;
 mod spends;
 mod step;
-#[cfg(test)]
-mod tests;
 mod tip;
 mod transactions;
 
-pub use branch::{Branch, Prepared};
-pub use fault::PrepareFault;
+pub use branch::Branch;
+pub use fault::{DisconnectRefusal, PrepareFault};
+pub use held::Prepared;
+pub use law::{refused_by_the_least_number, taken_back_as_before};
+pub use limits::MOST_EVENTS;
 pub use listing::Listing;
 pub use tip::Tip;

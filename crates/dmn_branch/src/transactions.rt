@@ -1,109 +1,110 @@
 //! The transactions of a block, judged one after another: each by the rows that the ones before left.
 
-ghost use Rattle.std.specs.Prelude.{◌≡◌, ◌+◌, ◌<◌, ◌≤◌, Ok, OnOk, IfErr, find, length};
+ghost use Rattle.std.specs.Prelude.{◌≡◌, ℕ, ◌+◌, ◌<◌, ◌≤◌, List, Option, Some, Ok, OnOk, IfErr, length};
 ghost use Rattle.std.specs.Option.{option_copied};
 ghost use Rattle.dmn_block.specs.Defs.{IsBlock};
-ghost use Rattle.dmn_rows.specs.Rows.{plain_rows};
+ghost use Rattle.dmn_indexes.specs.Working.{Leads, listing};
+ghost use Rattle.dmn_rows.specs.Distinct.{HasDistinctKeys};
+ghost use Rattle.dmn_rows.specs.declared.profile.Profile.{Profile};
+ghost use Rattle.dmn_rows.specs.declared.row.MnRow.{MnRow};
+ghost use Rattle.dmn_rows.specs.declared.verdict.Verdict.{Verdict};
+ghost use Rattle.dmn_rows.specs.Rows.{Outputs, plain_rows};
+ghost use Rattle.dmn_rules.specs.Change.{applied};
+ghost use Rattle.dmn_rules.specs.declared.effect.Effect.TheVariants.{Register};
 ghost use Rattle.dmn_rules.specs.Defs.{Judges, judge_of, effect_of};
-ghost use Rattle.dmn_rules.specs.Payload.{payload_rules};
-ghost use Rattle.dmn_rules.specs.Table.{first_of};
-ghost use Rattle.dmn_rules.specs.Looking.{judge_fault, IsPlacedBelow};
 ghost use Rattle.dmn_tx.specs.Defs.{id_of};
 ghost use Rattle.dmn_tx.specs.Tx.{KeepsPayload, is_special as special};
 ghost use Rattle.dmn_branch.specs.Fault.{Tells};
-ghost use Rattle.dmn_branch.specs.Parts.{IsWorking, IsAfter, rule_on, from_place};
-ghost use Rattle.dmn_branch.specs.Step.{verdict_on};
+ghost use Rattle.dmn_branch.specs.Events.{effect_events, once_there, tx_events};
+ghost use Rattle.dmn_branch.specs.Parts.{IsWorking, IsAfter, counted_at, rule_on, from_place};
 
 use crate::fault::PrepareFault;
-use dmn_block::BlockFrame;
-use dmn_bytes::Hash256;
-use dmn_payloads::{PayloadFault, read_commitment_payload};
-use dmn_rows::{Profile, RowList, Rule, Verdict};
-use dmn_rules::{JudgeFault, apply, judge};
-use dmn_tx::Tx;
+use crate::setting::Setting;
+use dmn_block::{BlockFrame, Refusal};
+use dmn_bytes::{Hash256, Memory};
+use dmn_indexes::Working;
+use dmn_rows::{MnRow, Verdict};
+use dmn_rules::{Effect, JudgeFault, judge, read_other};
+use dmn_tx::{LONGEST_PAYLOAD, REGISTER_TX, REVOKE_TX, SPECIAL_VERSION, Tx};
 use std::alloc::Global;
 
 /// Judges the transactions behind the first, in their order, and does to the rows what they do. The outputs of the list
 /// are those after the block before, and stay so.
+#[tactic(auto, using(dmn_indexes::proofs::Counting::leads_none, dmn_indexes::proofs::Counting::leads_then))]
 pub fn judge_all(
     alloc: Global,
-    profile: &Profile,
-    height: u32,
+    setting: &Setting<'_>,
     block: &BlockFrame,
-    list: &mut RowList,
+    list: &mut Working,
 ) -> Result<(), PrepareFault>
     requires block { IsBlock block.now }
-    requires working { IsWorking height list.old.rows }
-    ensures rows { OnOk result (from_place profile.now height block.now list.old 1 ≡ Ok (plain_rows height list.new.rows)) }
-    ensures refused { IfErr result (Tells (from_place profile.now height block.now list.old 1)) }
+    requires working { IsWorking setting.now.height list.old.rows }
+    ensures rows { OnOk result (from_place setting.now block.now list.old 1 ≡ Ok (counted_at setting.now.height list.new)) }
+    ensures refused { IfErr result (Tells (from_place setting.now block.now list.old 1)) }
     ensures outputs { OnOk result (list.new.outputs ≡ list.old.outputs) }
-    ensures working { OnOk result (IsWorking height list.new.rows) }
+    ensures working { OnOk result (IsWorking setting.now.height list.new.rows) }
+    ensures leads { Leads list.old list.new }
 {
     for place in 1..block.txs.len() {
-        judge_at(alloc, profile, height, block, place, list)?;
+        judge_at(alloc, setting, block, place, list)?;
     }
     Ok(())
 }
 
 // Judges the transaction at a place.
+#[tactic(auto, using(dmn_indexes::proofs::Counting::leads_none, dmn_indexes::proofs::Counting::leads_then))]
 fn judge_at(
     alloc: Global,
-    profile: &Profile,
-    height: u32,
+    setting: &Setting<'_>,
     block: &BlockFrame,
     place: usize,
-    list: &mut RowList,
+    list: &mut Working,
 ) -> Result<(), PrepareFault>
     requires block { IsBlock block.now }
-    requires working { IsWorking height list.old.rows }
+    requires working { IsWorking setting.now.height list.old.rows }
     requires place { place < length block.now.txs }
-    ensures rows { OnOk result (from_place profile.now height block.now list.old place ≡ from_place profile.now height block.now list.new (place + 1)) }
-    ensures refused { IfErr result (Tells (from_place profile.now height block.now list.old place)) }
+    ensures rows { OnOk result (from_place setting.now block.now list.old place ≡ from_place setting.now block.now list.new (place + 1)) }
+    ensures refused { IfErr result (Tells (from_place setting.now block.now list.old place)) }
     ensures outputs { OnOk result (list.new.outputs ≡ list.old.outputs) }
-    ensures working { OnOk result (IsWorking height list.new.rows) }
+    ensures working { OnOk result (IsWorking setting.now.height list.new.rows) }
+    ensures leads { Leads list.old list.new }
 {
     let tx = &block.txs.as_slice()[place];
     let id = &block.ids.as_slice()[place];
-    let verdict = verdict_on(place as u32, block.verdicts.as_slice());
-    match judge_one(alloc, profile, height, tx, id, verdict, list) {
+    let verdict = setting.verdict_on(place as u32);
+    match judge_one(alloc, setting, tx, id, verdict, list) {
         Ok(()) => Ok(()),
-        Err(JudgeFault::Broken(rule)) => Err(PrepareFault::Refused {
+        Err(JudgeFault::Broken(rule)) => Err(PrepareFault::Refused(Refusal {
             rule,
             tx: Some(place as u32),
-        }),
+        })),
         Err(JudgeFault::Memory) => Err(PrepareFault::Memory),
     }
 }
 
-// The verdict that names the transaction at a place.
-fn verdict_on(place: u32, verdicts: &[Verdict]) -> Option<&Verdict>
-    ensures { option_copied result ≡ verdict_on place verdicts.now }
-{
-    verdicts.iter().find(|verdict| verdict.tx == place)
-}
-
 // Judges a transaction, and does to the rows what it does.
+#[tactic(auto, using(dmn_indexes::proofs::Counting::leads_none, dmn_indexes::proofs::Counting::leads_then))]
 fn judge_one(
     alloc: Global,
-    profile: &Profile,
-    height: u32,
+    setting: &Setting<'_>,
     tx: &Tx,
     id: &Hash256,
     verdict: Option<&Verdict>,
-    list: &mut RowList,
+    list: &mut Working,
 ) -> Result<(), JudgeFault>
     requires payload { KeepsPayload tx.now }
     requires id { id.now ≡ id_of tx.now }
-    requires working { IsWorking height list.old.rows }
-    ensures rule { Judges (rule_on profile.now height list.old tx.now (option_copied verdict.entry)) result }
-    ensures after { OnOk result (IsAfter height list.old tx.now list.new) }
+    requires working { IsWorking setting.now.height list.old.rows }
+    ensures rule { Judges (rule_on setting.now (listing list.old) tx.now (option_copied verdict.entry)) result }
+    ensures after { OnOk result (IsAfter setting.now.height list.old tx.now list.new) }
+    ensures leads { Leads list.old list.new }
 {
     if !is_special(tx) {
         Ok(())
-    } else if tx.kind > 4 {
+    } else if tx.kind > REVOKE_TX {
         judge_other(alloc, tx)
     } else {
-        judge_provider(alloc, profile, height, tx, id, verdict, list)
+        judge_provider(alloc, setting, tx, id, verdict, list)
     }
 }
 
@@ -111,29 +112,39 @@ fn judge_one(
 fn is_special(tx: &Tx) -> bool
     ensures { result ≡ special tx.now.version tx.now.kind }
 {
-    tx.version == 3 && tx.kind != 0
+    tx.version == SPECIAL_VERSION && tx.kind != 0
 }
 
 // Judges a provider transaction, and does to the rows what it does.
+#[tactic(auto, using(dmn_indexes::proofs::Counting::leads_none, dmn_indexes::proofs::Counting::leads_then))]
 fn judge_provider(
     alloc: Global,
-    profile: &Profile,
-    height: u32,
+    setting: &Setting<'_>,
     tx: &Tx,
     id: &Hash256,
     verdict: Option<&Verdict>,
-    list: &mut RowList,
+    list: &mut Working,
 ) -> Result<(), JudgeFault>
-    requires provider { (1 ≤ tx.now.kind) × (tx.now.kind ≤ 4) }
+    requires provider { (REGISTER_TX ≤ tx.now.kind) × (tx.now.kind ≤ REVOKE_TX) }
     requires payload { KeepsPayload tx.now }
     requires id { id.now ≡ id_of tx.now }
-    requires working { IsWorking height list.old.rows }
-    ensures rule { Judges (judge_of profile.now (plain_rows height list.old.rows) list.old.outputs height tx.now (option_copied verdict.entry)) result }
-    ensures rows { OnOk result (plain_rows height list.new.rows ≡ effect_of (plain_rows height list.old.rows) list.old.outputs tx.now height) }
+    requires working { IsWorking setting.now.height list.old.rows }
+    ensures rule { Judges (judge_of setting.now.profile (plain_rows setting.now.height list.old.rows) list.old.outputs setting.now.height tx.now (option_copied verdict.entry)) result }
+    ensures rows { OnOk result (plain_rows setting.now.height list.new.rows ≡ effect_of (plain_rows setting.now.height list.old.rows) list.old.outputs tx.now setting.now.height) }
+    ensures events { OnOk result (list.new.events ≡ list.old.events + tx_events (plain_rows setting.now.height list.old.rows) list.old.outputs tx.now setting.now.height) }
     ensures outputs { OnOk result (list.new.outputs ≡ list.old.outputs) }
-    ensures working { OnOk result (IsWorking height list.new.rows) }
+    ensures working { OnOk result (IsWorking setting.now.height list.new.rows) }
+    ensures leads { Leads list.old list.new }
 {
-    match judge(alloc, profile, height, &*list, tx, id, verdict) {
+    match judge(
+        alloc,
+        setting.profile(),
+        setting.height(),
+        &*list,
+        tx,
+        id,
+        verdict,
+    ) {
         Err(fault) => Err(fault),
         Ok(effect) => match apply(list, effect) {
             Ok(()) => Ok(()),
@@ -142,42 +153,54 @@ fn judge_provider(
     }
 }
 
-// Judges a special transaction that is no provider's, by rules 20 to 22. It changes no row.
+// Does to the rows what an accepted transaction does.
+#[tactic(auto, using(dmn_indexes::proofs::Counting::leads_none, dmn_indexes::proofs::Counting::leads_then))]
+fn apply(list: &mut Working, effect: Effect) -> Result<(), Memory>
+    requires { HasDistinctKeys (applied effect list.old.rows) }
+    ensures rows { OnOk result (list.new.rows ≡ applied effect list.old.rows) }
+    ensures events { OnOk result (list.new.events ≡ list.old.events + effect_events list.old.rows (Some effect)) }
+    ensures outputs { OnOk result (list.new.outputs ≡ list.old.outputs) }
+    ensures leads { Leads list.old list.new }
+{
+    match effect {
+        Effect::Register { row, replaced } => register(list, &row, &replaced),
+        Effect::Update { row } => list.put_row(&row),
+    }
+}
+
+// Puts a new row, once the row that it replaces is gone.
+#[tactic(auto, using(dmn_indexes::proofs::Counting::leads_none, dmn_indexes::proofs::Counting::leads_then))]
+fn register(list: &mut Working, row: &MnRow, replaced: &Option<Hash256>) -> Result<(), Memory>
+    requires { HasDistinctKeys (applied (Register row.now replaced.now) list.old.rows) }
+    ensures rows { OnOk result (list.new.rows ≡ applied (Register row.now replaced.now) list.old.rows) }
+    ensures events { OnOk result (list.new.events ≡ list.old.events + (once_there replaced.now list.old.rows + 1)) }
+    ensures outputs { OnOk result (list.new.outputs ≡ list.old.outputs) }
+    ensures leads { Leads list.old list.new }
+{
+    match replaced {
+        None => {
+            list.put_row(row)?;
+            Ok(())
+        }
+        Some(hash) => {
+            list.drop_row(hash)?;
+            list.put_row(row)?;
+            Ok(())
+        }
+    }
+}
+
+// Judges a special transaction that is no provider's. It changes no row.
 fn judge_other(alloc: Global, tx: &Tx) -> Result<(), JudgeFault>
-    requires other { 4 < tx.now.kind }
-    requires short { length tx.now.payload ≤ 10000 }
-    ensures { Judges (first_of (payload_rules tx.now.kind tx.now.payload)) result }
+    requires other { REVOKE_TX < tx.now.kind }
+    requires short { length tx.now.payload ≤ LONGEST_PAYLOAD }
+    ensures rule { (profile : Profile) (rows : List MnRow) (outputs : Outputs) (height : ℕ) (verdict : Option Verdict)
+        → Judges (judge_of profile rows outputs height tx.now verdict) result }
+    ensures none { OnOk result ((rows : List MnRow) (outputs : Outputs) (height : ℕ) → effect_of rows outputs tx.now height ≡ rows) }
+    ensures events { (rows : List MnRow) (outputs : Outputs) (height : ℕ) → tx_events rows outputs tx.now height ≡ 0 }
 {
-    if tx.kind == 6 {
-        judge_commitment(alloc, tx.payload.as_slice())
-    } else {
-        Err(JudgeFault::Broken(Rule::UnknownType { found: tx.kind }))
-    }
-}
-
-// Judges the payload of a commitment by its form alone.
-fn judge_commitment(alloc: Global, payload: &[u8]) -> Result<(), JudgeFault>
-    requires { length payload.now ≤ 10000 }
-    ensures { Judges (first_of (payload_rules 6 payload.now)) result }
-{
-    match read_commitment_payload(alloc, payload) {
+    match read_other(alloc, tx) {
         Ok(_) => Ok(()),
-        Err(fault) => Err(broken_by(fault)),
-    }
-}
-
-// The rule that a fault of a payload breaks.
-fn broken_by(fault: PayloadFault) -> JudgeFault
-    requires { IsPlacedBelow 10000 fault }
-    ensures { result ≡ judge_fault fault }
-{
-    match fault {
-        PayloadFault::PayloadVersion { found } => JudgeFault::Broken(Rule::PayloadVersion {
-            found,
-        }),
-        PayloadFault::PayloadForm { at } => JudgeFault::Broken(Rule::PayloadForm {
-            place: at as u32,
-        }),
-        PayloadFault::Memory => JudgeFault::Memory,
+        Err(fault) => Err(fault),
     }
 }

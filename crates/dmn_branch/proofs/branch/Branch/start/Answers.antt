@@ -1,10 +1,31 @@
-use Rattle.std.proofs.Common.{◌≡◌, ◌∷◌, [], refl, arith}
+use Rattle.std.proofs.Common.{◌≡◌, ◌-◌, ◌∷◌, [], List, map, refl, sym, ap, ◌∙◌, subst, arith}
 use Rattle.std.proofs.lemmas.Grind.{common_steps}
-use Rattle.dmn_branch.specs.Stands.{first_kept}
-use Rattle.dmn_branch.proofs.Starting.{start_stands}
+use Rattle.dmn_branch.specs.declared.held.Held.{Held}
+use Rattle.dmn_rows.specs.declared.profile.Profile.{Profile}
+use Rattle.dmn_branch.specs.Step.{profile_of}
+use Rattle.dmn_branch.specs.Stands.{Kept, AreSound, IsWhole, IsKept, first_kept, kept_in}
+use Rattle.dmn_branch.proofs.Starting.{start_stands, begins_whole, start_kept}
+use Rattle.dmn_branch.proofs.Holding.{push_on, sound_none}
 use Rattle.dmn_branch.proofs.branch.Branch.start.Goals as goal
+
+pub invariant_of-result : goal.invariant_of-result
+invariant_of-result c =
+    let ix = c.origin.new.indexes in
+    let first = c.in_ok-first.first in
+    let start = c.args.start.now in
+    let items : c.push.new.self.items ≡ first ∷ [] = grind (arith, common_steps) in
+    let whole = subst IsWhole (sym c.in_ok-first.ensures.list) (begins_whole start c.requires) in
+    let one : IsKept c.profile_by.result start.first (start.first - 1) (kept_in ix first ∷ []) =
+    subst (λ (p : Profile). IsKept p start.first (start.first - 1) (kept_in ix first ∷ [])) (sym c.profile_by.ensures)
+    (subst (λ (k : Kept). IsKept (profile_of start) start.first (start.first - 1) (k ∷ [])) (sym c.in_ok-first.ensures.list) (start_kept start c.requires)) in (
+      subst (λ (l : List Held). IsKept c.profile_by.result start.first (start.first - 1) (map (kept_in ix) l)) (sym items) one,
+      subst (AreSound ix) (sym items) (push_on [] first c.in_ok-first.ensures.version c.in_ok-first.ensures.marks whole (sound_none ix)),
+    )
 
 pub returns : goal.returns
 returns c =
-    let lists : c.push.new.self.items ≡ first_kept c.args.start.now ∷ [] = grind (arith, common_steps) in
-    start_stands _ c.args.start.now c.requires (record { profile = c.profile_by.ensures; first = refl; lists = lists; top = refl })
+    let ix = c.origin.new.indexes in
+    let first = c.in_ok-first.first in
+    let items : c.push.new.self.items ≡ first ∷ [] = grind (arith, common_steps) in
+    let lists : map (kept_in ix) c.push.new.self.items ≡ first_kept c.args.start.now ∷ [] = ap (map (kept_in ix)) items ∙ ap (λ (k : Kept). k ∷ []) c.in_ok-first.ensures.list in
+    start_stands _ c.args.start.now c.requires (record { profile = c.profile_by.ensures; first = refl; lists = lists; top = refl }) refl (invariant_of-result c).1

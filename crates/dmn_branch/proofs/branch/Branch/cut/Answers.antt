@@ -1,0 +1,38 @@
+use Rattle.std.proofs.Common.{◌≡◌, ◌-◌, length, Some, refl, sym, ap, subst, ◌∙◌}
+use Rattle.std.specs.Prelude.{slice_get}
+use Rattle.dmn_indexes.specs.Marks.{Cut}
+use Rattle.dmn_branch.specs.declared.held.Held.{Held}
+use Rattle.dmn_branch.specs.Stands.{Keeping, IsKept}
+use Rattle.dmn_branch.proofs.Holding.{cut_on, left_stands, some_is}
+use Rattle.dmn_branch.proofs.branch.Branch.cut.Goals as goal
+
+pub invariant_of-self : goal.invariant_of-self
+invariant_of-self c =
+    let last = c.last.result.now in
+    let some = subst (λ (b : Keeping). slice_get b.held (length b.held - 1) ≡ Some last) (sym c.self.view_is) c.last.ensures.held in
+    let on = cut_on c.self.inside.held.items last some c.cut.ensures.kept c.self.invariant.1 in
+    (subst (IsKept c.self.inside.profile c.self.inside.first c.self.inside.top) (sym on.same) c.self.invariant.0, on.sound)
+
+pub returns-clause-left : goal.returns-clause-left
+returns-clause-left c =
+    let last = c.last.result.now in
+    let some = subst (λ (b : Keeping). slice_get b.held (length b.held - 1) ≡ Some last) (sym c.self.view_is) c.last.ensures.held in
+    let on = cut_on c.self.inside.held.items last some c.cut.ensures.kept c.self.invariant.1 in
+    record {
+      profile = ap (λ (b : Keeping). b.profile) c.self.view_is;
+      first = ap (λ (b : Keeping). b.first) c.self.view_is;
+      held = ap (λ (b : Keeping). b.held) c.self.view_is;
+      lists = on.same ∙ ap (λ (b : Keeping). b.lists) c.self.view_is;
+      top = ap (λ (b : Keeping). b.top) c.self.view_is;
+    }
+
+pub returns-clause-same : goal.returns-clause-same
+returns-clause-same c = λ m stands. left_stands m (returns-clause-left c) refl (invariant_of-self c).1 stands
+
+pub returns-clause-cut : goal.returns-clause-cut
+returns-clause-cut c = λ tip is.
+    let last = c.last.result.now in
+    let some = subst (λ (b : Keeping). slice_get b.held (length b.held - 1) ≡ Some last) (sym c.self.view_is) c.last.ensures.held in
+    let same : last ≡ tip = some_is _ last tip some is in
+    subst (λ (b : Keeping). Cut tip.marks b.indexes c.cut.new.self) c.self.view_is
+    (subst (λ (h : Held). Cut h.marks c.self.inside.indexes c.cut.new.self) same c.cut.ensures.cut)

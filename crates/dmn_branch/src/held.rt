@@ -1,0 +1,22 @@
+//! What is held of one height.
+
+use dmn_bytes::Hash256;
+use dmn_indexes::Version;
+
+/// The version of one height, with the hash of its block, the root to which the block commits, and how many nodes the
+/// arenas had then.
+#[derive(Clone, Copy, Debug)]
+pub struct Held {
+    pub height: u32,
+    pub hash: Hash256,
+    pub root: Hash256,
+    pub version: Version,
+    pub marks: [u64; 8],
+}
+
+/// The version after a block, which is not added yet.
+#[derive(Debug, Drop)]
+pub struct Prepared {
+    pub(crate) next: Held,
+    pub(crate) events: u64,
+}

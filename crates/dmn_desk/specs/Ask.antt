@@ -1,0 +1,154 @@
+-- The answer of a machine to each request and to each frame, in the order of its checks, and the machine after it. Each is
+-- by what replay of the accepted commands holds (dmn_branch/specs/Machine.antt). Before its start record was taken there is
+-- no machine.
+use Rattle.std.specs.Prelude.{ℕ, ◌+◌, ◌==◌, List, [], length, nat_lt, if◌then◌else◌, Option, None, Some, Result, Ok, Err}
+use Rattle.dmn_block.specs.declared.frame.BlockFrame.{BlockFrame}
+use Rattle.dmn_block.specs.declared.refusal.Refusal.{Refusal}
+use Rattle.dmn_block.specs.State.{State}
+use Rattle.dmn_branch.specs.declared.fault.DisconnectRefusal.{DisconnectRefusal}
+use Rattle.dmn_branch.specs.declared.fault.DisconnectRefusal.TheVariants as refusals
+use Rattle.dmn_branch.specs.Asked.{payees_of, row_of}
+use Rattle.dmn_branch.specs.Machine as machine
+use Rattle.dmn_branch.specs.Machine.{MachineState, is_held, low, state_at, tip, top}
+use Rattle.dmn_bytes.specs.declared.fault.Departure.{Departure}
+use Rattle.dmn_bytes.specs.declared.hash.Hash256.{Hash256}
+use Rattle.dmn_bytes.specs.Format.{whole}
+use Rattle.dmn_bytes.specs.Law.{place_of}
+use Rattle.dmn_rows.specs.declared.row.MnRow.{MnRow}
+use Rattle.dmn_rows.specs.declared.start.StartRecord.{StartRecord}
+use Rattle.dmn_rows.specs.Start.{start_record}
+use Rattle.dmn_sml.specs.Defs.{root_of, simple}
+use Rattle.dmn_desk.specs.declared.answer.Answer.{Answer}
+use Rattle.dmn_desk.specs.declared.answer.Answer.TheVariants.{Short, Grown}
+use Rattle.dmn_desk.specs.declared.answer.GrownAnswer.TheVariants as grown
+use Rattle.dmn_desk.specs.declared.answer.ShortAnswer.{ShortAnswer}
+use Rattle.dmn_desk.specs.declared.answer.ShortAnswer.TheVariants as short
+use Rattle.dmn_desk.specs.declared.kind.Kind.{Kind}
+use Rattle.dmn_desk.specs.declared.limits.TheConstants.{HEAD, LONGEST_BODY, START}
+use Rattle.dmn_desk.specs.declared.request.Request.{Request}
+use Rattle.dmn_desk.specs.declared.request.Request.TheVariants as requests
+use Rattle.dmn_desk.specs.Kinds.{is_built, kind_of}
+use Rattle.dmn_desk.specs.Plain.{is_plain}
+use Rattle.dmn_desk.specs.Requests.{request_of}
+
+-- ---- requests
+
+abbrev pub tip_of : MachineState → ShortAnswer
+tip_of m = short.Tip (tip m).height (tip m).hash (low m) (top m)
+
+abbrev pub not_held : MachineState → Answer
+not_held m = Short (short.NotHeld (low m) (tip m).height)
+
+abbrev pub of_state : MachineState → (State → Answer) → Option State → Answer
+of_state m tell None = not_held m
+of_state m tell (Some state) = tell state
+
+-- what is told of a height, where it is held
+unfoldable pub at_height : MachineState → ℕ → (State → Answer) → Answer
+at_height m height tell = if is_held m height then of_state m tell (state_at m height) else not_held m
+
+-- the list, with the hash and the root
+abbrev pub list_of : ℕ → State → Answer
+list_of height state = Grown (grown.List height state.hash (root_of (simple state.rows)) (simple state.rows))
+
+abbrev pub list_at : MachineState → ℕ → Answer
+list_at m height = at_height m height (list_of height)
+
+-- a row with the penalty in force at a height, where there is a row
+abbrev pub row_or_none : ℕ → Option MnRow → Answer
+row_or_none height None = Short short.NoSuch
+row_or_none height (Some row) = Grown (grown.Row (record row { penalty_at = height }))
+
+abbrev pub row_at : MachineState → ℕ → Hash256 → Answer
+row_at m height hash = at_height m height (λ state. row_or_none height (row_of hash state))
+
+abbrev pub payees_at : MachineState → ℕ → ℕ → Answer
+payees_at m height n = at_height m height (λ state. Grown (grown.Payees (payees_of n state)))
+
+abbrev pub connected : MachineState → Result MachineState Refusal → ShortAnswer × MachineState
+connected m (Ok next) = (short.Connected (tip next).height (tip next).hash, next)
+connected m (Err refusal) = (short.Refused refusal, m)
+
+-- a plain block is judged
+unfoldable pub connect : MachineState → BlockFrame → ShortAnswer × MachineState
+connect m block = if is_plain m block then connected m (machine.connect m block) else (short.NotBuilt, m)
+
+abbrev pub not_back : DisconnectRefusal → ShortAnswer
+not_back (refusals.NotTip tip) = short.NotTip tip
+not_back refusals.AtStart = short.AtStart
+not_back (refusals.TooDeep floor) = short.TooDeep floor
+
+abbrev pub disconnected : MachineState → Result MachineState DisconnectRefusal → ShortAnswer × MachineState
+disconnected m (Ok next) = (short.Disconnected (tip next).height (tip next).hash, next)
+disconnected m (Err refusal) = (not_back refusal, m)
+
+-- the last block is taken back, or not
+unfoldable pub disconnect : MachineState → Hash256 → ShortAnswer × MachineState
+disconnect m hash = disconnected m (machine.disconnect m hash)
+
+abbrev pub shortly : ShortAnswer × MachineState → Answer × MachineState
+shortly next = (Short next.0, next.1)
+
+-- the answer to a request; of a kind that is not built it is NotBuilt
+unfoldable pub ask : MachineState → Request → Answer × MachineState
+ask m (requests.Connect block body) = shortly (connect m block)
+ask m (requests.Disconnect hash) = shortly (disconnect m hash)
+ask m requests.Tip = (Short (tip_of m), m)
+ask m (requests.List height) = (list_at m height, m)
+ask m (requests.Row height hash) = (row_at m height hash, m)
+ask m (requests.Payees height count) = (payees_at m height count, m)
+ask m request = (Short short.NotBuilt, m)
+
+-- ---- frames
+
+-- what is answered to a body that departs at a place: the frame's kind and length stand before it
+abbrev pub departs_at : ℕ → Answer
+departs_at place = Short (short.BadRequest (HEAD + place))
+
+-- the answer to a body that is read, or departs
+abbrev pub asked_by : MachineState → Result Request Departure → Answer × MachineState
+asked_by m (Ok request) = ask m request
+asked_by m (Err departure) = (departs_at (place_of departure), m)
+
+-- the frame's kind is unknown
+abbrev pub unknown : Answer
+unknown = Short (short.BadRequest 0)
+
+abbrev pub not_built : Answer
+not_built = Short short.NotBuilt
+
+unfoldable pub asked_kind : MachineState → Option Kind → List ℕ → Answer × MachineState
+asked_kind m None body = (unknown, m)
+asked_kind m (Some kind) body = if is_built kind then asked_by m (request_of kind body) else (not_built, m)
+
+-- ---- before a start record was taken
+
+abbrev pub begun : StartRecord → MachineState
+begun start = record { start = start; commands = [] }
+
+unfoldable pub started_by : Result StartRecord Departure → Answer × Option MachineState
+started_by (Ok start) = (Short short.Started, Some (begun start))
+started_by (Err departure) = (departs_at (place_of departure), None)
+
+abbrev pub idle_kind : Option Kind → Answer
+idle_kind None = unknown
+idle_kind (Some kind) = not_built
+
+unfoldable pub asked_idle : ℕ → List ℕ → Answer × Option MachineState
+asked_idle kind body = if kind == START then started_by (whole start_record body) else (idle_kind (kind_of kind), None)
+
+-- ---- all frames
+
+abbrev pub held_then : Answer × MachineState → Answer × Option MachineState
+held_then next = (next.0, Some next.1)
+
+abbrev pub asked : Option MachineState → ℕ → List ℕ → Answer × Option MachineState
+asked None kind body = asked_idle kind body
+asked (Some m) kind body = held_then (asked_kind m (kind_of kind) body)
+
+-- the answer to a frame whose body has this length; one that is too long is not looked at
+unfoldable pub answered : Option MachineState → ℕ → ℕ → List ℕ → Answer × Option MachineState
+answered m kind size body = if nat_lt LONGEST_BODY size then (Short (short.BadRequest 1), m) else asked m kind body
+
+abbrev pub answer_of : Option MachineState → ℕ → List ℕ → Answer × Option MachineState
+answer_of m kind body = answered m kind (length body) body

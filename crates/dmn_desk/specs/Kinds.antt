@@ -1,0 +1,52 @@
+-- The kinds of requests: their numbers, which are built, how much of a body is read, and which may want memory.
+use Rattle.std.specs.Prelude.{ℕ, ◌==◌, Bool, true, false, if◌then◌else◌, List, [], take, Option, None, Some}
+use Rattle.dmn_desk.specs.declared.kind.Kind.{Kind}
+use Rattle.dmn_desk.specs.declared.kind.Kind.TheVariants.{Connect, Disconnect, Tip, List as ListKind, Row, Payees, Members, Quorums, Diff, Pin, Page, Release}
+use Rattle.dmn_desk.specs.declared.limits.TheConstants.{FRONT}
+use Rattle.dmn_desk.specs.declared.reading.Reading.{Reading}
+use Rattle.dmn_desk.specs.declared.reading.Reading.TheVariants.{Nothing, Front, Whole}
+
+unfoldable pub kind_of : ℕ → Option Kind
+kind_of number =
+    if number == 1 then Some Connect
+    else if number == 2 then Some Disconnect
+    else if number == 3 then Some Tip
+    else if number == 4 then Some ListKind
+    else if number == 5 then Some Row
+    else if number == 6 then Some Payees
+    else if number == 7 then Some Members
+    else if number == 8 then Some Quorums
+    else if number == 9 then Some Diff
+    else if number == 10 then Some Pin
+    else if number == 11 then Some Page
+    else if number == 12 then Some Release
+    else None
+
+-- the kinds that are answered by what is held; the others are answered NotBuilt
+abbrev pub is_built : Kind → Bool
+is_built Connect = true
+is_built Disconnect = true
+is_built Tip = true
+is_built ListKind = true
+is_built Row = true
+is_built Payees = true
+is_built kind = false
+
+-- how much of a body is read
+abbrev pub reading_of : Kind → Reading
+reading_of Connect = Whole
+reading_of Diff = Whole
+reading_of kind = Front
+
+-- what is left of a body that is read so
+abbrev pub kept_of : Reading → List ℕ → List ℕ
+kept_of Nothing body = []
+kept_of Front body = take FRONT body
+kept_of Whole body = body
+
+-- the kinds that are answered without memory
+abbrev pub takes_no_memory : Option Kind → Bool
+takes_no_memory (Some Disconnect) = true
+takes_no_memory (Some Tip) = true
+takes_no_memory (Some Release) = true
+takes_no_memory kind = false

@@ -1,0 +1,79 @@
+-- The status, the body and the frame of each answer.
+use Rattle.std.specs.Prelude.{ℕ, ◌^◌, ◌<◌, ◌≤◌, Bool, true, false, List, [], length}
+use Rattle.std.specs.Int.{w32, to_le_bytes}
+use Rattle.dmn_branch.specs.Step.{most_rows}
+use Rattle.dmn_desk.specs.declared.answer.Answer.{Answer}
+use Rattle.dmn_desk.specs.declared.answer.Answer.TheVariants as answers
+use Rattle.dmn_desk.specs.declared.answer.GrownAnswer.{GrownAnswer}
+use Rattle.dmn_desk.specs.declared.answer.GrownAnswer.TheVariants as grown
+use Rattle.dmn_desk.specs.declared.answer.ShortAnswer.{ShortAnswer}
+use Rattle.dmn_desk.specs.declared.answer.ShortAnswer.TheVariants.{Started, Connected, Disconnected, Tip, Memory, BadRequest, NotHeld, Refused, NotTip, AtStart, TooDeep, NotBuilt, NoSuch}
+use Rattle.dmn_desk.specs.Framed.{framed, connected_body, tip_body, held_body, list_body, refused_body, most_payees, payees_body}
+use Rattle.dmn_rows.specs.RowText.{row_text}
+
+abbrev pub short_status : ShortAnswer → ℕ
+short_status Started = 0
+short_status (Connected height hash) = 0
+short_status (Disconnected height hash) = 0
+short_status (Tip height hash low top) = 0
+short_status Memory = 1
+short_status (BadRequest at) = 2
+short_status (NotHeld low high) = 3
+short_status NoSuch = 4
+short_status (Refused refusal) = 8
+short_status (NotTip tip) = 9
+short_status AtStart = 10
+short_status (TooDeep floor) = 11
+short_status NotBuilt = 13
+
+unfoldable pub short_body : ShortAnswer → List ℕ
+short_body Started = []
+short_body (Connected height hash) = connected_body height hash
+short_body (Disconnected height hash) = connected_body height hash
+short_body (Tip height hash low top) = tip_body height hash low top
+short_body Memory = []
+short_body (BadRequest at) = to_le_bytes w32 at
+short_body (NotHeld low high) = held_body low high
+short_body NoSuch = []
+short_body (Refused refusal) = refused_body refusal
+short_body (NotTip tip) = tip.0
+short_body AtStart = []
+short_body (TooDeep floor) = to_le_bytes w32 floor
+short_body NotBuilt = []
+
+unfoldable pub grown_body : GrownAnswer → List ℕ
+grown_body (grown.List height hash root entries) = list_body height hash root entries
+grown_body (grown.Row r) = row_text r.penalty_at r
+grown_body (grown.Payees hashes) = payees_body hashes
+
+-- an answer that grows is always an Ok
+abbrev pub status_of : Answer → ℕ
+status_of (answers.Short answer) = short_status answer
+status_of (answers.Grown answer) = 0
+
+abbrev pub body_of : Answer → List ℕ
+body_of (answers.Short answer) = short_body answer
+body_of (answers.Grown answer) = grown_body answer
+
+abbrev pub short_frame : ShortAnswer → List ℕ
+short_frame answer = framed (short_status answer) (short_body answer)
+
+-- the frame of an answer
+abbrev pub frame_of : Answer → List ℕ
+frame_of answer = framed (status_of answer) (body_of answer)
+
+-- the answers whose length is bounded
+abbrev pub is_short : Answer → Bool
+is_short (answers.Short answer) = true
+is_short (answers.Grown answer) = false
+
+-- what an answer that grows keeps, so that its length fits its field
+abbrev pub IsBounded : Answer → Type 0
+IsBounded (answers.Short answer) = Unit {0}
+IsBounded (answers.Grown (grown.List height hash root entries)) = length entries ≤ most_rows
+IsBounded (answers.Grown (grown.Row r)) = Unit {0}
+IsBounded (answers.Grown (grown.Payees hashes)) = length hashes ≤ most_payees
+
+-- the length of the body fits its field
+abbrev pub Fits : Answer → Type 0
+Fits answer = length (body_of answer) < 2 ^ 32

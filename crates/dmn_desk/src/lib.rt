@@ -1,0 +1,29 @@
+//! Requests, and what is answered to them by what a branch holds.
+#![tactic(auto)]
+
+mod answer;
+mod body;
+mod desk;
+mod height;
+mod kind;
+mod limits;
+mod list;
+mod payees;
+mod plain;
+mod reading;
+mod request;
+mod row;
+mod rule_fields;
+mod short;
+mod start;
+mod text;
+
+pub use answer::{Answer, GrownAnswer, ShortAnswer};
+pub use desk::Desk;
+pub use kind::Kind;
+pub use limits::{FRONT, HEAD, LONGEST_BODY, START};
+pub use reading::Reading;
+pub use request::{Request, RequestFault, read_request};
+pub use short::Short;
+pub use start::begin;
+pub use text::{answer_text, short_text};

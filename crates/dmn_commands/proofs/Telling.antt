@@ -1,0 +1,66 @@
+-- The bytes of answers tell which of them are Memory.
+use Rattle.std.proofs.Common.{◌≡◌, ◌≢◌, ℕ, ◌+◌, ◌-◌, ◌^◌, ◌<◌, ◌≤◌, List, [], ◌∷◌, ◌++◌, length, take, drop, map, refl, sym, ap, ◌∙◌, append_assoc, arith}
+use Rattle.std.specs.Prelude.{Option, None, Some, nat_lt, if◌then◌else◌}
+use Rattle.std.specs.Int.{w32, from_le_bytes, to_le_bytes}
+use Rattle.std.specs.List.{All, flat_map}
+use Rattle.std.proofs.lemmas.Bool.{le-ltb}
+use Rattle.std.proofs.lemmas.List.{append-nil, drop-append-le, drop_all, length-append, take-append-le, take_all}
+use Rattle.std.proofs.lemmas.List.Concat.{flat_map-cons}
+use Rattle.std.proofs.lemmas.List.Elements.{All-head, All-tail}
+use Rattle.std.proofs.lemmas.Nat.{from_le_bytes-to_le_bytes_4}
+use Rattle.dmn_desk.specs.declared.answer.Answer.{Answer}
+use Rattle.dmn_desk.specs.declared.answer.Answer.TheVariants.{Short, Grown}
+use Rattle.dmn_desk.specs.declared.answer.ShortAnswer.TheVariants as short
+use Rattle.dmn_desk.specs.Framed.{framed}
+use Rattle.dmn_desk.specs.Texts.{Fits, body_of, frame_of, status_of}
+use Rattle.dmn_commands.specs.Frames.{Frame, frame_at, Begins, Cuts}
+use Rattle.dmn_commands.specs.Laws.{AnswersTellOfMemory, as_frame}
+use Rattle.dmn_commands.specs.Machines.{lack}
+use Rattle.dmn_commands.proofs.Cutting.{nothing_at_end, same_cut}
+
+-- a frame at the front of a text, by its size in four bytes
+frame_by : (kind size : ℕ) (body rest : List ℕ) → size < 2 ^ 32 → size ≡ length body → frame_at (kind ∷ (to_le_bytes w32 size ++ (body ++ rest))) ≡ Some (record { kind = kind; body = body }, rest)
+unfolding frame_at
+frame_by kind size body rest fits is =
+    let back : from_le_bytes w32 (to_le_bytes w32 size) ≡ size = from_le_bytes-to_le_bytes_4 size fits in
+    let enough : size ≤ length (body ++ rest) = omega (arith, length-append body rest) in
+    let front : take size (body ++ rest) ≡ body = take-append-le size body rest (omega arith) ∙ take_all size body (omega arith) in
+    let behind : drop size (body ++ rest) ≡ rest = drop-append-le size body rest (omega arith) ∙ ap (λ (l : List ℕ). l ++ rest) (drop_all size body (omega arith)) in
+    rw (back, le-ltb (length (body ++ rest)) size enough, front, behind) refl
+
+one_frame : (answer : Answer) (rest : List ℕ) → Fits answer → frame_at (frame_of answer ++ rest) ≡ Some (as_frame answer, rest)
+unfolding framed
+one_frame answer rest fits = ap (λ (l : List ℕ). frame_at (status_of answer ∷ l)) (append_assoc (to_le_bytes w32 (length (body_of answer))) (body_of answer) rest) ∙ frame_by (status_of answer) (length (body_of answer)) (body_of answer) rest fits refl
+
+all_frames : (answers : List Answer) → All Fits answers → Begins (flat_map frame_of answers) (map as_frame answers) []
+all_frames [] fit = refl
+all_frames (answer ∷ answers) fit = (
+  flat_map frame_of answers,
+  ap frame_at (flat_map-cons frame_of answer answers) ∙ one_frame answer (flat_map frame_of answers) (All-head Fits answer answers fit),
+  all_frames answers (All-tail Fits answer answers fit),
+)
+
+only_memory : (answer : Answer) → status_of answer ≡ 1 → answer ≡ lack
+only_memory (Short short.Started) is = absurd (cc)
+only_memory (Short (short.Connected height hash)) is = absurd (cc)
+only_memory (Short (short.Disconnected height hash)) is = absurd (cc)
+only_memory (Short (short.Tip height hash low top)) is = absurd (cc)
+only_memory (Short short.Memory) is = refl
+only_memory (Short (short.BadRequest at)) is = absurd (cc)
+only_memory (Short (short.NotHeld low high)) is = absurd (cc)
+only_memory (Short short.NoSuch) is = absurd (cc)
+only_memory (Short (short.Refused refusal)) is = absurd (cc)
+only_memory (Short (short.NotTip tip)) is = absurd (cc)
+only_memory (Short short.AtStart) is = absurd (cc)
+only_memory (Short (short.TooDeep floor)) is = absurd (cc)
+only_memory (Short short.NotBuilt) is = absurd (cc)
+only_memory (Grown answer) is = absurd (cc)
+
+pub answers_tell_of_memory : AnswersTellOfMemory
+answers_tell_of_memory answers fit =
+    let cut = all_frames answers fit in (
+      record { front = cut; partial = nothing_at_end },
+      λ frames left other.
+          let same = same_cut (flat_map frame_of answers) (map as_frame answers) frames [] left cut nothing_at_end other.front other.partial in (sym same.0, sym same.1),
+      only_memory,
+    )

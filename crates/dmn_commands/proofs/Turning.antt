@@ -1,0 +1,106 @@
+-- A frame that is taken and answered.
+use Rattle.std.proofs.Common.{◌≡◌, ℕ, false, inl, inr, List, [], ◌++◌, length, take, drop, refl, sym, ap, subst, ◌∙◌, lit<}
+use Rattle.std.proofs.lemmas.Bool.{le-ltb, lt-ltb}
+use Rattle.std.specs.Prelude.{Option, None}
+use Rattle.dmn_branch.specs.Machine.{MachineState}
+use Rattle.dmn_outside.specs.Line.{Talk}
+use Rattle.dmn_outside.specs.Pieces.{Ended, SentFront}
+use Rattle.dmn_desk.specs.declared.answer.Answer.{Answer}
+use Rattle.dmn_desk.specs.declared.answer.Answer.TheVariants.{Short, Grown}
+use Rattle.dmn_desk.specs.Texts.{Fits, frame_of, is_short, short_body}
+use Rattle.dmn_commands.specs.declared.machine.Machine.{Machine}
+use Rattle.dmn_commands.specs.Frames.{Frame, frame_at}
+use Rattle.dmn_commands.specs.Machines.{MayServe, lack}
+use Rattle.dmn_commands.specs.Serving.{MayAnswer}
+use Rattle.dmn_commands.specs.Steps.{Asked, Emptied, Faulted, Headed, RepliesTo, SentPart, Turned}
+use Rattle.dmn_commands.proofs.Growing.{answer_grows}
+use Rattle.dmn_commands.proofs.Heading.{faulted_behind}
+
+-- the frame, and what is left behind it
+pub turned : (m n : Machine) (answer : Answer) (kind size : ℕ) (x h a : Talk) (left : List ℕ) → Headed kind size x h → Asked m kind size answer n h a → Fits answer → left ≡ a.left → Turned m answer n x.left left
+turned m n answer kind size x h a left head asked fits same =
+    let after : a.left ≡ drop size h.left = ap (λ (t : Talk). t.left) asked.took.after in
+    record {
+      frame = record { kind = kind; body = take size h.left };
+      front = head.frame ∙ rw (le-ltb (length h.left) size asked.took.enough, same, after) refl;
+      may = asked.may;
+      fits = fits;
+    }
+
+-- taking the frame changes nothing but what is left
+pub taken : (m n : Machine) (answer : Answer) (kind size : ℕ) (x h a : Talk) → Headed kind size x h → Asked m kind size answer n h a → a ≡ record x { left = a.left }
+taken m n answer kind size x h a head asked =
+    let left : a.left ≡ drop size h.left = ap (λ (t : Talk). t.left) asked.took.after in
+    asked.took.after ∙ ap (λ (t : Talk). record t { left = drop size h.left }) head.after ∙ ap (λ (l : List ℕ). record x { left = l }) (sym left)
+
+-- its whole answer is sent
+pub sent_whole : (x a z : Talk) (bytes : List ℕ) → a ≡ record x { left = a.left } → z ≡ record a { sent = a.sent ++ bytes } → z ≡ record x { left = z.left; sent = x.sent ++ bytes }
+sent_whole x a z bytes took sent =
+    let left : z.left ≡ a.left = ap (λ (t : Talk). t.left) sent in
+    sent ∙ ap (λ (t : Talk). record t { sent = t.sent ++ bytes }) took ∙ ap (λ (l : List ℕ). record x { left = l; sent = x.sent ++ bytes }) (sym left)
+
+-- a part of its answer is sent
+pub sent_part : (x a z : Talk) (bytes : List ℕ) → a ≡ record x { left = a.left } → SentFront bytes a z → SentPart bytes x z
+sent_part x a z bytes took s =
+    let left : z.left ≡ a.left = ap (λ (t : Talk). t.left) s.after in
+    record {
+      count = s.count;
+      few = s.few;
+      own = s.own;
+      after = s.after ∙ ap (λ (t : Talk). record t { sent = t.sent ++ take s.count bytes; own = z.own }) took ∙ ap (λ (l : List ℕ). record x { left = l; sent = x.sent ++ take s.count bytes; own = z.own }) (sym left);
+    }
+
+-- the line broke within the frame's body
+pub faulted_within : (kind size : ℕ) (x h z : Talk) → Headed kind size x h → Faulted h z → Faulted x z
+faulted_within kind size x h z head f = faulted_behind 5 x h z (subst (λ (l : List ℕ). h ≡ record x { left = l }) head.taken head.after) f
+
+-- the input ended within the frame's body
+pub cut_within : (kind size : ℕ) (x h z : Talk) → Headed kind size x h → Ended size h z → (x.left ≡ [] → ⊥) × (frame_at x.left ≡ None) × Emptied x z
+cut_within kind size x h z head e = (head.some, head.frame ∙ rw (lt-ltb (length h.left) size e.few) refl, e.after ∙ ap (λ (t : Talk). record t { left = [] }) head.after)
+
+-- ---- a reply
+
+may_lack : (m : Option MachineState) (frame : Frame) (answer : Answer) (n : Option MachineState) → is_short answer ≡ false → MayAnswer m frame answer n → MayAnswer m frame lack n
+may_lack m frame answer n grown (inl is) =
+    let kept = answer_grows m frame.kind (length frame.body) frame.body (ap (λ (p : Answer × Option MachineState). is_short p.0) is ∙ grown) in
+    inr (kept.1, refl, sym (ap (λ (p : Answer × Option MachineState). p.1) is) ∙ kept.0)
+may_lack m frame answer n grown (inr free) = inr (free.0, refl, free.2)
+
+serves_lack : (old new : Machine) (frame : Frame) (answer : Answer) → is_short answer ≡ false → MayServe old frame answer new → MayServe old frame lack new
+serves_lack old new frame answer grown may m stands = let next = may m stands in (next.0, next.1, may_lack m frame answer next.0 grown next.2)
+
+-- the frame of the answer that is sent
+pub record Replied (m : Machine) (kind size : ℕ) (bytes : List ℕ) (n : Machine) (old new : Talk) : Type 0 where
+  pub answer : Answer
+  pub asked : Asked m kind size answer n old new
+  pub fits : Fits answer
+  pub bytes_are : bytes ≡ frame_of answer
+
+pub replied : (m n : Machine) (kind size : ℕ) (bytes : List ℕ) (answer : Answer) (x y : Talk) → Asked m kind size answer n x y → RepliesTo bytes answer → Replied m kind size bytes n x y
+unfolding short_body
+replied m n kind size bytes (Short answer) x y asked is = record { answer = Short answer; asked = asked; fits = is.1; bytes_are = is.0 }
+replied m n kind size bytes (Grown answer) x y asked (inl is) = record { answer = Grown answer; asked = asked; fits = is.1; bytes_are = is.0 }
+replied m n kind size bytes (Grown answer) x y asked (inr is) = record {
+  answer = lack;
+  asked = record { took = asked.took; may = serves_lack m n (record { kind = kind; body = take size x.left }) (Grown answer) refl asked.may };
+  fits = lit< tt;
+  bytes_are = is;
+}
+
+-- the whole answer was sent
+pub turned_whole : (m n : Machine) (kind size : ℕ) (bytes : List ℕ) (x h a z : Talk) → Headed kind size x h → Replied m kind size bytes n h a → z ≡ record a { sent = a.sent ++ bytes }
+    → (answer : Answer) × Turned m answer n x.left z.left × (z ≡ record x { left = z.left; sent = x.sent ++ frame_of answer })
+turned_whole m n kind size bytes x h a z head r sent =
+    let whole : z ≡ record a { sent = a.sent ++ frame_of r.answer } = subst (λ (l : List ℕ). z ≡ record a { sent = a.sent ++ l }) r.bytes_are sent in (
+      r.answer,
+      turned m n r.answer kind size x h a z.left head r.asked r.fits (ap (λ (t : Talk). t.left) sent),
+      sent_whole x a z (frame_of r.answer) (taken m n r.answer kind size x h a head r.asked) whole,
+    )
+
+-- the line broke while a reply was sent
+pub turned_part : (m n : Machine) (kind size : ℕ) (bytes : List ℕ) (x h a z : Talk) → Headed kind size x h → Replied m kind size bytes n h a → SentFront bytes a z → (answer : Answer) × Turned m answer n x.left z.left × SentPart (frame_of answer) x z
+turned_part m n kind size bytes x h a z head r part = (
+  r.answer,
+  turned m n r.answer kind size x h a z.left head r.asked r.fits (ap (λ (t : Talk). t.left) part.after),
+  sent_part x a z (frame_of r.answer) (taken m n r.answer kind size x h a head r.asked) (subst (λ (l : List ℕ). SentFront l a z) r.bytes_are part),
+)

@@ -1,0 +1,321 @@
+"""Answers: from words to bytes, and from bytes to words."""
+
+import ipaddress
+
+from wire import NO_SERVICE, commitment_text, entry_text, frame, list_root, number, pay_of, pay_text, point_text, service_text
+from words import Mistake, bytes_of
+
+CONNECT, DISCONNECT, TIP, LIST, ROW, PAYEES, MEMBERS, QUORUMS, DIFF, PIN, PAGE, RELEASE = range(1, 13)
+START = 32
+KINDS = {CONNECT: "connect", DISCONNECT: "disconnect", TIP: "tip", LIST: "list", ROW: "row", PAYEES: "payees",
+         MEMBERS: "members", QUORUMS: "quorums", DIFF: "diff", PIN: "pin", PAGE: "page", RELEASE: "release",
+         START: "start"}
+NO_TRANSACTION = 0xFFFFFFFF
+ENTRY_SIZE = 151
+ROW_SIZE = 293
+
+# Each status, and the fields of its body with their sizes; a field of 32 bytes is a hash. Those of Ok are by kind.
+STATUSES = {
+    0: ("Ok", ()), 1: ("Memory", ()), 2: ("BadRequest", (("at", 4),)), 3: ("NotHeld", (("low", 4), ("high", 4))),
+    4: ("NoSuch", ()), 5: ("BaseAbove", ()), 6: ("PinsFull", ()), 7: ("PinUnknown", ()), 8: ("Refused", ()),
+    9: ("NotTip", (("tip", 32),)), 10: ("AtStart", ()), 11: ("TooDeep", (("floor", 4),)), 12: ("JournalFull", ()),
+    13: ("NotBuilt", ()),
+}
+NUMBERS = {name: number for number, (name, _) in STATUSES.items()}
+OK_FIELDS = {
+    CONNECT: (("height", 4), ("hash", 32)), DISCONNECT: (("height", 4), ("hash", 32)),
+    TIP: (("height", 4), ("hash", 32), ("low", 4), ("top", 4)), LIST: (("height", 4), ("hash", 32)),
+    PIN: (("pin", 4),), PAGE: (), RELEASE: (), START: (),
+}
+HASH_LISTS = (PAYEES, MEMBERS)
+
+# The rules that a block may break, and the fields that a refusal tells, each with its size.
+RULES = {
+    1: ("ZeroHash", ()), 2: ("HashKnown", (("height", 4),)), 3: ("NotNext", (("tip", 32),)), 4: ("HeightLimit", ()),
+    6: ("NoCoinbase", ()), 7: ("SecondCoinbase", ()), 8: ("DuplicateTx", ()), 9: ("BadMerkle", (("computed", 32),)),
+    10: ("VerdictForm", (("position", 4),)), 11: ("CbPayload", ()), 12: ("CbVersion", (("found", 2),)),
+    13: ("CbHeight", (("found", 4),)), 20: ("UnknownType", (("found", 2),)), 21: ("PayloadVersion", (("found", 2),)),
+    22: ("PayloadForm", (("place", 4),)), 23: ("InputsHash", ()), 30: ("RegType", ()), 31: ("RegMode", ()),
+    32: ("NullKey", ()), 33: ("PayoutForm", ()), 34: ("PayoutKey", ()), 35: ("RewardRange", ()),
+    36: ("AddressForm", ()), 37: ("SigPresence", ()), 38: ("CollateralIndex", ()), 39: ("CollateralValue", ()),
+    40: ("CollateralScript", ()), 41: ("CollateralUnknown", ()), 42: ("CollateralKeyless", ()),
+    43: ("CollateralKey", ()), 44: ("DupOwner", (("row", 32),)), 45: ("DupOperator", (("row", 32),)),
+    46: ("DupAddress", (("row", 32),)), 50: ("NoRow", ()), 51: ("UpAddress", ()), 52: ("UpDupAddress", (("row", 32),)),
+    53: ("OperatorPayoutForm", ()), 54: ("OperatorPayoutUnasked", ()), 55: ("NoOperator", ()), 56: ("UpMode", ()),
+    57: ("UpNullKey", ()), 58: ("UpPayoutForm", ()), 59: ("UpPayoutKey", ()), 60: ("UpDupOperator", (("row", 32),)),
+    61: ("UpCollateralKey", ()), 62: ("RevokeReason", ()), 63: ("QuorumVersion", (("found", 2),)),
+    64: ("QuorumType", (("found", 1),)), 65: ("QuorumHeight", (("found", 4),)), 66: ("QuorumWindow", ()),
+    67: ("QuorumBase", (("base", 32),)), 68: ("QuorumSecond", ()), 69: ("QuorumDone", ()), 70: ("QuorumBits", ()),
+    71: ("QuorumFew", ()), 73: ("VerdictMissing", ()), 74: ("VerdictOther", (("wanted", 32),)), 75: ("VerdictNo", ()),
+    80: ("QuorumMissing", (("type", 1),)), 81: ("TooManyChanges", ()), 82: ("TooManyMasternodes", ()),
+    83: ("TooManyOutputs", ()), 84: ("CbRoot", (("committed", 32), ("computed", 32))),
+}
+RULE_NUMBERS = {name: number for number, (name, _) in RULES.items()}
+
+
+# ---- from words to bytes
+
+class Wanted:
+    """The words of an answer to a request of this kind, behind this block where the request is one."""
+
+    def __init__(self, words, below, kind, block):
+        self.words = words
+        self.below = below
+        self.kind = kind
+        self.block = block
+
+    def frame(self):
+        """The frame of the answer, or nothing where none is sent."""
+        words = self.words
+        if words.takes("nothing"):
+            return b""
+        if words.takes("bytes"):
+            return words.hex()
+        word = words.next()
+        if word not in NUMBERS:
+            raise Mistake("'%s' is no status" % word)
+        self.status = NUMBERS[word]
+        if self.status == 0:
+            body = self.ok()
+        elif self.status == NUMBERS["Refused"]:
+            body = self.refused()
+        else:
+            body = self.fields(STATUSES[self.status][1])
+        words.ends()
+        return frame(self.status, body)
+
+    def fields(self, wanted):
+        """'NAME VALUE', with a comma between two of them."""
+        text = b""
+        for place, (name, size) in enumerate(wanted):
+            if place:
+                self.words.wants(",")
+            self.words.wants(name)
+            text += self.value(name, size)
+        return text
+
+    def value(self, name, size):
+        if size != 32:
+            return number(self.words.number(), size)
+        if self.words.takes("right"):
+            return self.right(name)
+        return self.words.hash()
+
+    def right(self, name):
+        """The root that the block should have told: that of its ids, or that of the list behind it."""
+        if self.block is None or name != "computed":
+            raise Mistake("'right' is said of a root that a block was to tell")
+        return self.block.ids_root if self.rule == RULE_NUMBERS["BadMerkle"] else self.block.root
+
+    def refused(self):
+        word = self.words.next()
+        self.rule = int(word) if word.isdigit() else RULE_NUMBERS.get(word)
+        if self.rule not in RULES:
+            raise Mistake("'%s' is no rule" % word)
+        if self.words.takes("(rule"):
+            self.words.next()
+        place = self.words.number() if self.words.takes("at") else NO_TRANSACTION
+        fields = RULES[self.rule][1]
+        if fields:
+            self.words.wants(",")
+        return number(self.rule, 1) + number(place, 4) + self.fields(fields)
+
+    def ok(self):
+        if self.kind in HASH_LISTS:
+            hashes = self.hashes()
+            return number(len(hashes), 2) + b"".join(hashes)
+        if self.kind == ROW:
+            return self.row()
+        if self.kind == QUORUMS:
+            texts = self.commitments()
+            return number(len(texts), 2) + b"".join(texts)
+        if self.kind not in OK_FIELDS:
+            raise Mistake("no words are known for an Ok to this request")
+        text = self.fields(OK_FIELDS[self.kind])
+        if self.kind in (LIST, PAGE):
+            entries = sorted((self.entry(line) for line in self.below), key=lambda entry: entry["hash"])
+            texts = b"".join(entry_text(entry) for entry in entries)
+            if self.kind == PAGE:
+                return number(len(entries), 2) + texts
+            return text + list_root(entries) + number(len(entries), 4) + texts
+        return text
+
+    def hashes(self):
+        found = []
+        while not self.words.is_done():
+            if found:
+                self.words.wants(",")
+            found.append(self.words.id())
+        return found
+
+    def commitments(self):
+        found = []
+        while not self.words.is_done():
+            if found:
+                self.words.wants(",")
+            found.append(commitment_text(self.words.name().values))
+        return found
+
+    def entry(self, words):
+        """An entry of a list: that of a registration by its name, 'with' what differs."""
+        tx = words.name()
+        values = tx.values
+        entry = {"hash": tx.id(), "confirmed": bytes(32), "banned": values["service"] == NO_SERVICE,
+                 **{name: values[name] for name in ("service", "operator", "voting")}}
+        if words.takes("with"):
+            while self.change(entry, words) and words.takes("and"):
+                pass
+        words.ends()
+        return entry
+
+    def change(self, told, words):
+        """What may differ from the registration in an entry or a row."""
+        if "paid" in told and self.change_row(told, words):
+            return True
+        for name, size in (("confirmed", 32), ("owner", 20), ("operator", 48), ("voting", 20)):
+            if name in told and words.takes(name):
+                told[name] = words.sized(size)
+                return True
+        if words.takes("no", "operator"):
+            told["operator"] = bytes(48)
+        elif words.takes("no", "service"):
+            told["service"] = NO_SERVICE
+        elif words.takes("address"):
+            told["service"] = (words.address(), told["service"][1])
+        elif words.takes("port"):
+            told["service"] = (told["service"][0], words.number())
+        elif "paid" not in told and words.takes("banned"):
+            told["banned"] = True
+        elif "paid" not in told and words.takes("valid"):
+            told["banned"] = False
+        else:
+            return False
+        return True
+
+    def change_row(self, row, words):
+        for name in ("registered", "paid", "revived", "banned", "penalty", "reason", "reward"):
+            if words.takes(name):
+                row[name] = words.number()
+                return True
+        if words.takes("payout"):
+            row["payout"] = pay_of(words.script())
+        elif words.takes("operator", "payout"):
+            row["operator payout"] = pay_of(words.script())
+        elif words.takes("collateral"):
+            row["collateral"] = words.point()
+        elif words.takes("pays", "to"):
+            row["script"] = pay_of(words.script())
+        else:
+            return False
+        return True
+
+    def row(self):
+        """A row: that of a registration by its name, 'with' what differs."""
+        words = self.words
+        tx = words.name()
+        values = tx.values
+        own = values["collateral"][0] == bytes(32)
+        index = values["collateral"][1]
+        row = {"confirmed": bytes(32), "registered": tx.height, "paid": 0, "revived": 0, "penalty": 0, "reason": 0,
+               "banned": tx.height if values["service"] == NO_SERVICE else 0, "owner": values["owner"],
+               "operator": values["operator"], "voting": values["voting"], "service": values["service"],
+               "payout": pay_of(values["payout"]), "operator payout": (0, bytes(20)), "reward": values["reward"],
+               "collateral": (tx.id(), index) if own else values["collateral"],
+               "script": pay_of(tx.outputs[index].script) if own else (0, bytes(20))}
+        if words.takes("with"):
+            while self.change(row, words) and words.takes("and"):
+                pass
+        numbers = b"".join(number(row[name], 4) for name in ("registered", "paid", "revived", "banned", "penalty"))
+        return (tx.id() + row["confirmed"] + numbers + number(row["reason"], 2) + row["owner"] + row["operator"]
+                + row["voting"] + service_text(row["service"]) + pay_text(row["payout"])
+                + pay_text(row["operator payout"]) + number(row["reward"], 2) + point_text(row["collateral"])
+                + pay_text(row["script"]))
+
+
+# ---- from bytes to words
+
+class Shown:
+    """An answer's bytes as words, with the names of the case's transactions."""
+
+    def __init__(self, kind, names):
+        self.kind = kind
+        self.names = {tx.id(): name for name, tx in names.items()}
+
+    def hash(self, text):
+        if text in self.names:
+            return "of register %s" % self.names[text]
+        return "%02x" % text[0] if len(set(text)) == 1 else text.hex()
+
+    def fields(self, fields, body):
+        """The fields in words, and what is left of the body."""
+        words = []
+        for name, size in fields:
+            value = body[:size]
+            body = body[size:]
+            words.append("%s %s" % (name, self.hash(value) if size == 32 else int.from_bytes(value, "little")))
+        return words, body
+
+    def words(self, status, body):
+        """Lines: the answer, and the entries of a list below it."""
+        name, fields = STATUSES.get(status, ("status %d" % status, ()))
+        below = []
+        if name == "Refused" and len(body) >= 5:
+            told, rest = self.refused(body)
+        elif status == 0 and self.kind in HASH_LISTS:
+            told, rest = [self.hash(body[at:at + 32]).removeprefix("of ") for at in range(2, len(body), 32)], b""
+        else:
+            told, rest = self.fields(OK_FIELDS.get(self.kind, ()) if status == 0 else fields, body)
+        if status == 0 and self.kind == LIST:
+            told.append("root %s, entries: %d" % (rest[:32].hex(), int.from_bytes(rest[32:36], "little")))
+            below, rest = self.entries(rest[36:]), b""
+        elif status == 0 and self.kind == ROW and len(rest) == ROW_SIZE:
+            told, rest = self.row(rest), b""
+        elif status == 0 and self.kind == PAGE:
+            told.append("entries: %d" % int.from_bytes(rest[:2], "little"))
+            below, rest = self.entries(rest[2:]), b""
+        if rest:
+            told.append("bytes %s" % rest.hex())
+        return ["%s %s" % (name, ", ".join(told)) if told else name] + below
+
+    def refused(self, body):
+        rule, place = body[0], int.from_bytes(body[1:5], "little")
+        name, fields = RULES.get(rule, ("", ()))
+        told, rest = self.fields(fields, body[5:])
+        head = "%s (rule %d)" % (name, rule)
+        if place != NO_TRANSACTION:
+            head += " at %d" % place
+        return [head] + told, rest
+
+    def entries(self, text):
+        return [self.entry(text[at:at + ENTRY_SIZE]) for at in range(0, len(text), ENTRY_SIZE)]
+
+    def entry(self, entry):
+        return "%s, %s" % (self.known(entry[:32], entry[64:82]), "valid" if entry[150] else "banned")
+
+    def known(self, text, service):
+        """A masternode by its registration, and where it serves."""
+        address = ipaddress.IPv6Address(service[:16])
+        host = str(address.ipv4_mapped or address)
+        name = self.names.get(text)
+        known = "register %s" % name if name else "registration %s" % text.hex()
+        return known + (" at %s:%d" % (host, int.from_bytes(service[16:], "big")) if any(service) else " without a service")
+
+    def row(self, row):
+        """A row: the masternode, and its heights and numbers that aren't 0."""
+        numbers = [("registered", 64), ("paid", 68), ("revived", 72), ("banned", 76), ("penalty", 80)]
+        told = [(name, int.from_bytes(row[at:at + 4], "little")) for name, at in numbers]
+        told += [("reason", int.from_bytes(row[84:86], "little")), ("reward", int.from_bytes(row[234:236], "little"))]
+        confirmed = ["confirmed %s" % self.hash(row[32:64])] if any(row[32:64]) else []
+        return [self.known(row[:32], row[174:192])] + confirmed + ["%s %d" % pair for pair in told if pair[1]]
+
+
+def cut_answers(text):
+    """Each answer's status and body."""
+    at, found = 0, []
+    while at < len(text):
+        size = int.from_bytes(text[at + 1:at + 5], "little")
+        if len(text) < at + 5 + size:
+            raise Mistake("the last answer is cut")
+        found.append((text[at], text[at + 5:at + 5 + size]))
+        at += 5 + size
+    return found

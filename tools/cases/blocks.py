@@ -1,0 +1,132 @@
+"""Blocks in words. What a block's words do not say is right: its roots, the block before it, and its verdicts."""
+
+from model import Working
+from transactions import (Coinbase, Draft, Raw, changed, finish_update, read_commitment, read_ordinary,
+                          read_registration, read_special, read_update)
+from wire import REVOKE, Tx, block_text, header_text, merkle_root, verdict_text
+from words import Mistake
+
+HEADER = ("version", "time", "bits", "nonce")
+
+
+class Block:
+    """A block while its words are read: 'block HEIGHT [with ..][: ITEM, ITEM, ..]'."""
+
+    def __init__(self, words, case):
+        self.case = case
+        self.height = words.number()
+        case.height = self.height
+        self.hash = bytes([self.height % 256]) * 32
+        self.previous = case.tip().hash
+        self.merkle = None
+        self.header = {}
+        self.coinbase = Coinbase(self.height)
+        self.has_coinbase = True
+        self.drafts = []
+        self.verdicts = []
+        changed(self, words)
+        if words.takes(":"):
+            self.items(words)
+
+    def change(self, words):
+        if words.takes("hash"):
+            self.hash = words.hash()
+        elif words.takes("previous"):
+            self.previous = words.hash()
+        elif words.takes("merkle"):
+            self.merkle = words.hash()
+        elif words.peek() in HEADER:
+            name = words.next()
+            self.header[name] = words.number()
+        else:
+            return False
+        return True
+
+    def items(self, words):
+        self.item(words)
+        while words.peek() == "," and words.peek(1) != "but":
+            words.wants(",")
+            self.item(words)
+
+    def item(self, words):
+        case = self.case
+        if words.takes("register"):
+            self.drafts.append(read_registration(words, case))
+        elif words.takes("update"):
+            self.drafts.append(read_update(words, case))
+        elif words.takes("revoke"):
+            self.drafts.append(finish_update(REVOKE, words, case))
+        elif words.takes("ordinary"):
+            self.drafts.append(read_ordinary(words, case))
+        elif words.takes("special"):
+            self.drafts.append(read_special(words, case))
+        elif words.takes("null"):
+            self.drafts.append(read_commitment(words, case, True))
+        elif words.takes("commitment"):
+            self.drafts.append(read_commitment(words, case, False))
+        elif words.takes("coinbase"):
+            changed(self.coinbase, words)
+        elif words.takes("no", "coinbase"):
+            self.has_coinbase = False
+        elif words.takes("another", "coinbase"):
+            other = changed(Coinbase(self.height), words)
+            other.commit(bytes(32))
+            self.drafts.append(other)
+        elif words.takes("again"):
+            self.drafts.append(Draft(words.name(), None))
+        elif words.takes("transaction"):
+            self.drafts.append(Draft(Raw(words.hex()), None))
+        elif words.takes("verdict"):
+            self.verdicts.append((words.number(), words.number(), words.hash(), words.number()))
+        elif words.peek(1) == "ordinary":
+            self.fillers(words)
+        else:
+            raise Mistake("'%s' is no item of a block" % words.peek())
+
+    def fillers(self, words):
+        """'N ordinary': so many transactions without inputs and outputs, which differ by their lock times."""
+        count = words.number()
+        words.wants("ordinary")
+        self.drafts += [Draft(Tx(lock=lock), None) for lock in range(1, count + 1)]
+
+    def due_verdict(self, place, draft, working):
+        """The verdict on a transaction, as its words have it."""
+        due = draft.due_verdict(working) if hasattr(draft, "due_verdict") else None
+        said = draft.verdict
+        kind = due[0] if said.kind is None and due else said.kind
+        key = due[1] if said.key is None and due else said.key
+        if not said.is_given or kind is None:
+            return None
+        return place, kind, key if key is not None else bytes(32), said.valid
+
+    def spent(self, working):
+        """Goes through inputs and outputs. A coinbase's id is known once its root is."""
+        first = [self.coinbase.tx] if self.has_coinbase else []
+        others = [draft.tx for draft in self.drafts]
+        for tx in first:
+            working.take(tx)
+        for tx in others:
+            working.take(tx)
+            working.give(tx)
+        self.root = working.root()
+        self.coinbase.commit(self.root)
+        for tx in first:
+            working.give(tx)
+        return first + others
+
+    def finish(self):
+        """The block's bytes; the state that it leaves, if it is accepted, stays at hand."""
+        working = Working(self.case.tip(), self.hash)
+        verdicts = []
+        for place, draft in enumerate(self.drafts, 1):
+            verdict = self.due_verdict(place, draft, working)
+            if verdict:
+                verdicts.append(verdict)
+            working.apply(draft.tx)
+        txs = self.spent(working)
+        self.ids_root = merkle_root([tx.id() for tx in txs])
+        self.after = working.state(self.hash)
+        merkle = self.ids_root if self.merkle is None else self.merkle
+        verdicts = [verdict_text(*verdict) for verdict in self.verdicts or verdicts]
+        return block_text(self.hash, header_text(self.previous, merkle, **self.header), [tx.text() for tx in txs],
+                          verdicts)

@@ -1,0 +1,97 @@
+"""Requests in words."""
+
+from answers import CONNECT, DIFF, DISCONNECT, LIST, MEMBERS, PAGE, PAYEES, PIN, QUORUMS, RELEASE, ROW, START, TIP
+from blocks import Block
+from model import PROFILES, State
+from wire import frame, number, pay_of, pay_text, point_text
+from words import Mistake, bytes_of
+
+
+class Request:
+    """A request: its kind, its bytes on the line, and what follows for the case where it is answered Ok."""
+
+    def __init__(self, kind, text, block=None, accepted=None):
+        self.kind = kind
+        self.text = text
+        self.block = block
+        self.accepted = accepted or (lambda: None)
+
+
+def start(words, case):
+    """'start PROFILE FIRST HASH', and behind commas the outputs: 'POINT to SCRIPT'."""
+    profile = words.next()
+    if profile not in PROFILES:
+        raise Mistake("a profile is small or main")
+    first = words.number()
+    before = words.hash()
+    outputs = []
+    while words.peek() == "," and words.peek(1) != "but":
+        words.wants(",")
+        point = words.point()
+        words.wants("to")
+        outputs.append((point, pay_of(words.script())))
+    body = number(1, 2) + number(PROFILES[profile], 1) + number(first, 4) + before + number(len(outputs), 4)
+    body += b"".join(point_text(point) + pay_text(pay) for point, pay in outputs)
+    return START, body, None, lambda: case.begin(profile, State(first - 1, before, {}, dict(outputs)))
+
+
+def block(words, case):
+    drafted = Block(words, case)
+    return CONNECT, drafted.finish(), drafted, lambda: case.states.append(drafted.after)
+
+
+def connect(words, _):
+    return CONNECT, words.hex(), None, None
+
+
+def disconnect(words, case):
+    return DISCONNECT, words.hash(), None, case.go_back
+
+
+def frame_of(words, _):
+    kind = words.number()
+    return kind, words.hex(), None, None
+
+
+def fields(kind, *sizes):
+    """A request of numbers of these sizes; a size of 32 is a hash."""
+    def read(words, _):
+        return kind, b"".join(words.hash() if size == 32 else number(words.number(), size) for size in sizes), None, None
+    return read
+
+
+READERS = {
+    "start": start, "block": block, "connect": connect, "disconnect": disconnect, "frame": frame_of,
+    "tip": fields(TIP), "list": fields(LIST, 4), "row": fields(ROW, 4, 32), "payees": fields(PAYEES, 4, 2),
+    "members": fields(MEMBERS, 1, 4), "quorums": fields(QUORUMS, 4), "diff": fields(DIFF, 32, 32),
+    "pin": fields(PIN, 4), "page": fields(PAGE, 4, 4, 2), "release": fields(RELEASE, 4),
+}
+
+
+def but(words, body):
+    """'cut to N bytes', 'followed by HEX' or 'byte N is HEX': a body out of its form."""
+    if words.takes("cut", "to"):
+        size = words.number()
+        words.wants("bytes")
+        return body[:size]
+    if words.takes("followed", "by"):
+        return body + words.hex()
+    words.wants("byte")
+    place = words.number()
+    words.wants("is")
+    return body[:place] + bytes_of(words.next()) + body[place + 1:]
+
+
+def read_request(words, case):
+    word = words.next()
+    if word == "bytes":
+        text = words.hex()
+        words.ends()
+        return Request(None, text)
+    if word not in READERS:
+        raise Mistake("'%s' is no request" % word)
+    kind, body, drafted, accepted = READERS[word](words, case)
+    while words.takes(",", "but"):
+        body = but(words, body)
+    words.ends()
+    return Request(kind, frame(kind, body), drafted, accepted)

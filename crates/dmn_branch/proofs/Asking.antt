@@ -43,8 +43,8 @@ payee_seen h rows =
 
 -- ---- what is held of a height
 
-pub held_list : (b : Keeping) (n : ℕ) (held : Held) → b.lists ≡ map (kept_in b.indexes) b.held → slice_get b.held n ≡ Some held → slice_get b.lists n ≡ Some (kept_in b.indexes held)
-held_list b n held read is = ap (λ (l : List Kept). slice_get l n) read ∙ slice_get-map (kept_in b.indexes) b.held n ∙ ap (option_map (kept_in b.indexes)) is
+pub held_list : (b : Keeping) (n : ℕ) (held : Held) → b.lists ≡ map (kept_in b.indexes b.mined) b.held → slice_get b.held n ≡ Some held → slice_get b.lists n ≡ Some (kept_in b.indexes b.mined held)
+held_list b n held read is = ap (λ (l : List Kept). slice_get l n) read ∙ slice_get-map (kept_in b.indexes b.mined) b.held n ∙ ap (option_map (kept_in b.indexes b.mined)) is
 
 pub held_height : (b : Keeping) (height : ℕ) (k : Kept) → IsHeld b height → AreFrom (low_kept b) b.lists → slice_get b.lists (height - low_kept b) ≡ Some k → k.height ≡ height
 held_height b height k held are is = omega (arith, held.low, from_at (low_kept b) b.lists (height - low_kept b) k are is)

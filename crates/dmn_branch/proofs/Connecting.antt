@@ -1,9 +1,10 @@
 -- A connect, by what is kept of the tip.
-use Rattle.std.proofs.Common.{◌≡◌, ℕ, true, false, None, Some, refl, sym, ap, ◌∙◌, subst}
+use Rattle.std.proofs.Common.{◌≡◌, ℕ, true, false, List, None, Some, refl, sym, ap, ◌∙◌, subst}
 use Rattle.dmn_block.specs.declared.frame.BlockFrame.{BlockFrame}
 use Rattle.dmn_block.specs.Shape.{by_block}
 use Rattle.dmn_bytes.specs.declared.hash.Hash256.{Hash256}
 use Rattle.dmn_bytes.specs.Points.{is_zero}
+use Rattle.dmn_quorums.specs.Forming.{Formed}
 use Rattle.dmn_rows.specs.declared.profile.Profile.{Profile}
 use Rattle.dmn_rows.specs.declared.rule.Rule.TheVariants.{ZeroHash, HashKnown}
 use Rattle.dmn_branch.specs.declared.fault.PrepareFault.{PrepareFault}
@@ -37,12 +38,12 @@ tells_known m block faults.Memory broken = tt
 
 -- ---- the step
 
-pub tells_step : (m : MachineState) (block : BlockFrame) (profile : Profile) (fault : PrepareFault) → profile ≡ machine.profile m → broken_hash m block.hash ≡ None → Tells (step_from profile (tip m) block) fault → Tells (connect m block) fault
-tells_step m block profile fault is fresh tells =
-    tells_more (step_from profile (tip m) block) (connect m block) fault tells
-    (λ refusal refused. connect_refuses m block refusal fresh (ap (λ (p : Profile). step_from p (tip m) block) (sym is) ∙ refused))
+pub tells_step : (m : MachineState) (block : BlockFrame) (profile : Profile) (formed : List Formed) (fault : PrepareFault) → profile ≡ machine.profile m → formed ≡ machine.formed m → broken_hash m block.hash ≡ None → Tells (step_from profile formed (tip m) block) fault → Tells (connect m block) fault
+tells_step m block profile formed fault is are fresh tells =
+    tells_more (step_from profile formed (tip m) block) (connect m block) fault tells
+    (λ refusal refused. connect_refuses m block refusal fresh (ap (λ (p : Profile). step_from p (machine.formed m) (tip m) block) (sym is) ∙ ap (λ (f : List Formed). step_from profile f (tip m) block) (sym are) ∙ refused))
 
-pub next_is : (m : MachineState) (block : BlockFrame) (profile : Profile) (events : ℕ) (prepared : Kept) → profile ≡ machine.profile m → broken_hash m block.hash ≡ None → Follows profile (tip m) block events prepared → IsNext prepared m block
-next_is m block profile events prepared is fresh follows =
-    let accepted = connect_accepts m block follows.after fresh (ap (λ (p : Profile). step_from p (tip m) block) (sym is) ∙ follows.stepped) in
+pub next_is : (m : MachineState) (block : BlockFrame) (profile : Profile) (formed : List Formed) (events : ℕ) (prepared : Kept) → profile ≡ machine.profile m → formed ≡ machine.formed m → broken_hash m block.hash ≡ None → Follows profile formed (tip m) block events prepared → IsNext prepared m block
+next_is m block profile formed events prepared is are fresh follows =
+    let accepted = connect_accepts m block follows.after fresh (ap (λ (p : Profile). step_from p (machine.formed m) (tip m) block) (sym is) ∙ ap (λ (f : List Formed). step_from profile f (tip m) block) (sym are) ∙ follows.stepped) in
     record { accepted = accepted.0; stands = subst (StandsAt prepared) (sym accepted.1) follows.stands }

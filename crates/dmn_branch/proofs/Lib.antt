@@ -14,3 +14,6 @@ mod Putting
 mod Holding
 mod Entries
 mod Numbers
+mod Mining
+mod Punishing
+mod Drawing

@@ -185,7 +185,7 @@ low_up first kept top more = omega arith
 gone : (first low more : ℕ) → first ≤ low → low ≤ more → low - first + (more - low) ≡ more - first
 gone first low more one two = omega (arith, one, two)
 
-pub stands_next : (old new : Keeping) (prepared : Kept) (m : MachineState) (block : BlockFrame) → IsAdded old new prepared → 0 < length old.lists → new.lists ≡ map (kept_in new.indexes) new.held → AreSound new.indexes new.held → StandsFor old m → IsNext prepared m block → StandsFor new (with_block m block)
+pub stands_next : (old new : Keeping) (prepared : Kept) (m : MachineState) (block : BlockFrame) → IsAdded old new prepared → 0 < length old.lists → new.lists ≡ map (kept_in new.indexes new.mined) new.held → AreSound new.indexes new.mined new.held → StandsFor old m → IsNext prepared m block → StandsFor new (with_block m block)
 stands_next old new prepared m block added some read sound stands next =
     let n = with_block m block in
     let one = tip n ∷ [] in
@@ -211,7 +211,7 @@ stands_next old new prepared m block added some read sound stands next =
       profile = profile;
       first = first;
       lists = all;
-      trees = all_trees new.indexes new.held (held_states n) sound.versions (subst (λ (l : List Kept). AllStand l (held_states n)) read all);
+      trees = all_trees new.indexes new.mined new.held (held_states n) sound.versions (subst (λ (l : List Kept). AllStand l (held_states n)) read all);
       top = top;
       lawful = lawful_next m block n next.accepted stands.lawful;
     }
@@ -238,7 +238,7 @@ blocks_some : (m : MachineState) → IsLawful m.start (machine.branch m) → 1 <
 unfolding history
 blocks_some m lawful some = omega (arith, lawful, some)
 
-pub stands_back : (old new : Keeping) (m : MachineState) (hash : Hash256) → IsLess old new → 0 < length new.lists → new.lists ≡ map (kept_in new.indexes) new.held → AreSound new.indexes new.held → StandsFor old m → StandsFor new (without_tip m hash)
+pub stands_back : (old new : Keeping) (m : MachineState) (hash : Hash256) → IsLess old new → 0 < length new.lists → new.lists ≡ map (kept_in new.indexes new.mined) new.held → AreSound new.indexes new.mined new.held → StandsFor old m → StandsFor new (without_tip m hash)
 stands_back old new m hash less some read sound stands =
     let n = without_tip m hash in
     let lists : length old.lists ≡ length new.lists + 1 = ap length less.lists ∙ length-append new.lists (less.last ∷ []) in
@@ -259,7 +259,7 @@ stands_back old new m hash less some read sound stands =
       profile = less.profile ∙ stands.profile;
       first = less.first ∙ stands.first;
       lists = all;
-      trees = all_trees new.indexes new.held (held_states n) sound.versions (subst (λ (l : List Kept). AllStand l (held_states n)) read all);
+      trees = all_trees new.indexes new.mined new.held (held_states n) sound.versions (subst (λ (l : List Kept). AllStand l (held_states n)) read all);
       top = top;
       lawful = back.lawful;
     }
@@ -305,6 +305,9 @@ next_low profile first top height lists kept is = low_next (first - 1) profile.k
 tip_next : (low more count top height : ℕ) → low ≤ more → more ≤ low + 1 → 0 < count → height ≡ low + count → more + (count + 1 - (more - low)) ≤ max top height + 1
 tip_next low more count top height up next some is = omega (arith, up, next, some, is)
 
+reach_next : (low more count top height depth : ℕ) → low ≤ more → more ≤ low + 1 → height ≡ low + count → top + 1 ≤ low + count + depth → max top height + 1 ≤ more + (count + 1 - (more - low)) + depth
+reach_next low more count top height depth up next is reach = omega (arith, up, next, is, reach)
+
 -- what a branch keeps with the list that was prepared
 pub kept_more : (profile : Profile) (first top : ℕ) (lists : List Kept) (k : Kept) → IsKept profile first top lists → k.height ≡ low_of profile first top + length lists → IsKept profile first (max top k.height) (drop (low_of profile first (max top k.height) - low_of profile first top) (lists ++ k ∷ []))
 kept_more profile first top lists k kept next = go (low_of profile first top) (low_of profile first (max top k.height)) refl refl (low_up (first - 1) profile.kept top k.height) (next_low profile first top k.height lists kept next)
@@ -323,17 +326,22 @@ kept_more profile first top lists k kept next = go (low_of profile first top) (l
           heights = subst (λ (n : ℕ). AreFrom n (drop (more - low) (lists ++ k ∷ []))) (from ∙ two) (from_drop (more - low) low (lists ++ k ∷ []) few all);
           tip = subst (λ (n : ℕ). n + length (drop (more - low) (lists ++ k ∷ [])) ≤ max top k.height + 1) two
               (subst (λ (n : ℕ). more + n ≤ max top k.height + 1) (sym count) (tip_next low more (length lists) top k.height up by kept.some is));
+          reach = subst (λ (n : ℕ). max top k.height + 1 ≤ n + length (drop (more - low) (lists ++ k ∷ [])) + profile.depth) two
+              (subst (λ (n : ℕ). max top k.height + 1 ≤ more + n + profile.depth) (sym count) (reach_next low more (length lists) top k.height profile.depth up by is (subst (λ (n : ℕ). top + 1 ≤ n + length lists + profile.depth) (sym one) kept.reach)));
           deep = kept.deep;
+          bases = kept.bases;
         }
 
--- what a branch keeps without its last list
-pub kept_less : (profile : Profile) (first top : ℕ) (lists : List Kept) (k : Kept) → IsKept profile first top (lists ++ k ∷ []) → 0 < length lists → IsKept profile first top lists
-kept_less profile first top lists k kept some = record {
+-- what a branch keeps without its last list, where the tip was above the floor
+pub kept_less : (profile : Profile) (first top : ℕ) (lists : List Kept) (k : Kept) → IsKept profile first top (lists ++ k ∷ []) → 0 < length lists → max (first - 1) (top - profile.depth) < low_of profile first top + length lists → IsKept profile first top lists
+kept_less profile first top lists k kept some above = record {
   begins = kept.begins;
   some = some;
   heights = from_less (low_of profile first top) lists k kept.heights;
   tip = omega (arith, kept.tip, length-append lists (k ∷ []));
+  reach = omega (arith, above);
   deep = kept.deep;
+  bases = kept.bases;
 }
 
 -- where the tip is above the floor, more than one height is held

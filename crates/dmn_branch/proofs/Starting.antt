@@ -1,5 +1,6 @@
 -- A branch without blocks.
 use Rattle.std.proofs.Common.{◌≡◌, ◌-◌, ◌≤◌, false, length, List, [], ◌∷◌, map, refl, subst, arith, ℕ, max, drop, true, ◌==◌, Bool, cond, sym, ap}
+use Rattle.std.specs.List.{AllByRecursion}
 use Rattle.std.proofs.lemmas.Bool.{not-true}
 use Rattle.dmn_block.specs.State.{origin}
 use Rattle.dmn_bytes.specs.Points.{is_zero}
@@ -10,9 +11,10 @@ use Rattle.dmn_rows.specs.Listing.{OutputsAscend}
 use Rattle.dmn_rows.specs.Start.{start_record, hash_field, most_outputs}
 use Rattle.dmn_rows.specs.Profile.{small_profile, main_profile}
 use Rattle.dmn_rows.proofs.Found.{found_keeps, found_ascends}
+use Rattle.dmn_branch.specs.Quorums.{types_of}
 use Rattle.dmn_branch.specs.Step.{profile_of}
 use Rattle.dmn_branch.specs.Machine.{MachineState, held_states, history, top}
-use Rattle.dmn_branch.specs.Stands.{Kept, Keeping, AllStand, AreSound, IsWhole, IsKept, StandsAt, StandsFor, first_kept, kept_in}
+use Rattle.dmn_branch.specs.Stands.{Kept, Keeping, AllStand, AreSound, HoldsBase, IsWhole, IsKept, StandsAt, StandsFor, first_kept, kept_in}
 use Rattle.dmn_branch.proofs.Holding.{all_trees}
 
 pub start_bounds : (start : StartRecord) → start_record.Fits start → KeepsBounds start
@@ -45,7 +47,7 @@ begins_whole start fits = first_whole start (start_hash start fits) (start_bound
 
 first_stands : (start : StartRecord) → start_record.Fits start → StandsAt (first_kept start) (origin start)
 unfolding merkle_root
-first_stands start fits = record { height = refl; hash = refl; root = refl; rows = refl; outputs = refl; whole = begins_whole start fits }
+first_stands start fits = record { height = refl; hash = refl; root = refl; rows = refl; outputs = refl; mined = refl; whole = begins_whole start fits }
 
 -- a branch that has just begun
 pub record IsBegun (branch : Keeping) (start : StartRecord) : Type 0 where
@@ -66,6 +68,20 @@ deep_by false = omega arith
 deep : (start : StartRecord) → (profile_of start).depth ≤ (profile_of start).kept
 deep start = deep_by (start.profile == 1)
 
+bases_by : (small : Bool) → AllByRecursion (HoldsBase (cond small small_profile main_profile)) (types_of (cond small small_profile main_profile).quorums)
+bases_by true = (record { interval = omega arith; behind = omega arith; held = omega arith }, tt)
+bases_by false = (
+  record { interval = omega arith; behind = omega arith; held = omega arith },
+  (
+    record { interval = omega arith; behind = omega arith; held = omega arith },
+    (record { interval = omega arith; behind = omega arith; held = omega arith }, tt),
+  ),
+)
+
+-- and as many that the base of each quorum is held
+bases : (start : StartRecord) → AllByRecursion (HoldsBase (profile_of start)) (types_of (profile_of start).quorums)
+bases start = bases_by (start.profile == 1)
+
 -- what a branch keeps that has just begun
 pub start_kept : (start : StartRecord) → start_record.Fits start → IsKept (profile_of start) start.first (start.first - 1) (first_kept start ∷ [])
 start_kept start fits =
@@ -75,10 +91,12 @@ start_kept start fits =
       some = omega arith;
       heights = (sym low, tt);
       tip = omega (arith, low);
+      reach = omega (arith, low, (start_bounds start fits).first.0);
       deep = deep start;
+      bases = bases start;
     }
 
-pub start_stands : (branch : Keeping) (start : StartRecord) → start_record.Fits start → IsBegun branch start → branch.lists ≡ map (kept_in branch.indexes) branch.held → AreSound branch.indexes branch.held → StandsFor branch (record { start = start; commands = [] })
+pub start_stands : (branch : Keeping) (start : StartRecord) → start_record.Fits start → IsBegun branch start → branch.lists ≡ map (kept_in branch.indexes branch.mined) branch.held → AreSound branch.indexes branch.mined branch.held → StandsFor branch (record { start = start; commands = [] })
 unfolding history top
 start_stands branch start fits begun read sound =
     let m : MachineState = record { start = start; commands = [] } in
@@ -90,7 +108,7 @@ start_stands branch start fits begun read sound =
       profile = begun.profile;
       first = begun.first;
       lists = lists;
-      trees = all_trees branch.indexes branch.held (held_states m) sound.versions (subst (λ (l : List Kept). AllStand l (held_states m)) read lists);
+      trees = all_trees branch.indexes branch.mined branch.held (held_states m) sound.versions (subst (λ (l : List Kept). AllStand l (held_states m)) read lists);
       top = begun.top;
       lawful = refl;
     }

@@ -1,7 +1,7 @@
 -- One block more: the stages of a step, by what is kept of a height.
 use Rattle.std.proofs.Common.{◌≡◌, ℕ, ◌+◌, ◌-◌, ◌≤◌, Bool, true, false, not, List, [], ◌∷◌, ◌++◌, length, drop, Option, Some, None, Result, Ok, Err, refl, sym, ap, ◌∙◌, arith, inl, inr}
 use Rattle.std.specs.Prelude.{◌==◌, nat_lt}
-use Rattle.std.specs.Option.{option_or}
+use Rattle.std.specs.Option.{option_map, option_or}
 use Rattle.std.specs.Result.{result_ok}
 use Rattle.std.specs.List.{All}
 use Rattle.std.specs.Str.{bytes_eq}
@@ -21,7 +21,11 @@ use Rattle.dmn_block.specs.Spend.{spend}
 use Rattle.dmn_block.specs.State.{State}
 use Rattle.dmn_rows.proofs.Table.{first_broken_append}
 use Rattle.dmn_payloads.specs.Payloads.{cb, cb_sound}
+use Rattle.dmn_payloads.specs.declared.commitment.Commitment.{Commitment}
+use Rattle.dmn_payloads.specs.declared.mined.MinedAt.{MinedAt}
 use Rattle.dmn_payloads.specs.declared.payloads.CbTx.{CbTx}
+use Rattle.dmn_quorums.specs.Duty.{mined_at}
+use Rattle.dmn_quorums.specs.Forming.{Formed, missing}
 use Rattle.dmn_rows.specs.declared.profile.Profile.{Profile}
 use Rattle.dmn_rows.specs.declared.row.MnRow.{MnRow}
 use Rattle.dmn_rows.specs.declared.rule.Rule.TheVariants.{ZeroHash, CbHeight, TooManyChanges, TooManyMasternodes, TooManyOutputs, CbRoot}
@@ -42,11 +46,12 @@ use Rattle.dmn_indexes.specs.Working.{Worked, listing}
 use Rattle.dmn_tx.specs.declared.tx.Tx.{Tx}
 use Rattle.dmn_branch.specs.declared.fault.PrepareFault.{PrepareFault}
 use Rattle.dmn_branch.specs.declared.fault.PrepareFault.TheVariants as faults
-use Rattle.dmn_branch.specs.Fault.{of_shape, Tells}
+use Rattle.dmn_branch.specs.Fault.{of_shape, Tells, TellsRule}
 use Rattle.dmn_branch.specs.Events.{confirmations, once_there, spend_events}
+use Rattle.dmn_branch.specs.Quorums.{Committed, none_committed}
 use Rattle.dmn_branch.specs.Parts.{Given, IsWorking, Follows, given_of, counted_at, outcome_of, from_place}
 use Rattle.dmn_branch.specs.Stands.{Kept, kept_of, IsWhole, StandsAt}
-use Rattle.dmn_branch.specs.Step.{Outcome, transactions, most_events, most_rows, coinbase_in, marked, last_rules, state_of, shaped, stood, transacted, spent, after_payment, outcome, closed, step_from, events_in}
+use Rattle.dmn_branch.specs.Step.{Outcome, transactions, most_events, most_rows, coinbase_in, marked, last_rules, state_of, shaped, stood, transacted, dutiful, spent, after_payment, outcome, closed, step_from, events_in}
 use Rattle.dmn_branch.proofs.Confirming.{confirmed_all}
 use Rattle.dmn_branch.proofs.Events.{there_seen, confirmations_seen, spend_events_seen}
 use Rattle.dmn_branch.proofs.Spending.{seen, spend_seen, spend_keys, spend_ascends, spend_all}
@@ -112,12 +117,12 @@ simple_seen h [] = refl
 simple_seen h (row ∷ rows) = ap (λ (entries : List SmlEntry). entry_of row ∷ entries) (simple_seen h rows)
 
 -- an outcome with its rows as they are seen at a height
-abbrev seen_outcome : ℕ → Worked → Outcome
-seen_outcome h list = record { list = seen h (listing list); events = list.events }
+abbrev seen_outcome : ℕ → Worked → List Commitment → Outcome
+seen_outcome h list mined = record { list = seen h (listing list); events = list.events; mined = mined }
 
-last_seen : (o : Option CbTx) (h : ℕ) (list : Worked) → last_rules o (seen_outcome h list) ≡ last_rules o (outcome_of list)
+last_seen : (o : Option CbTx) (h : ℕ) (list : Worked) (mined : List Commitment) → last_rules o (seen_outcome h list mined) ≡ last_rules o (outcome_of list mined)
 unfolding last_rules
-last_seen o h list = rw (length-map list.rows (plain h), simple_seen h list.rows) refl
+last_seen o h list mined = rw (length-map list.rows (plain h), simple_seen h list.rows) refl
 
 -- what there is behind the last rules, by the root to which the coinbase commits
 pub record IsLawful (value : CbTx) (after : Outcome) : Type 0 where
@@ -171,8 +176,9 @@ begun_from tip h hash old begun same none before rows events outputs =
     }
 
 -- the working lists behind the transactions, behind the spends and behind the mark
-pub record IsEnded (given : Given) (who : Option Hash256) (block : BlockFrame) (begun judged spending after : Worked) : Type 0 where
-  pub judging : from_place given block begun 1 ≡ Ok (counted_at given.height judged)
+pub record IsEnded (given : Given) (who : Option Hash256) (block : BlockFrame) (begun judged : Worked) (committed : Committed) (spending after : Worked) : Type 0 where
+  pub judging : from_place given block begun none_committed 1 ≡ Ok (counted_at given.height judged committed)
+  pub duty : missing given.formed committed.kinds ≡ None
   pub same : judged.outputs ≡ begun.outputs
   pub spends : listing spending ≡ spend block.txs (listing judged)
   pub removed : spending.events ≡ judged.events + spend_events block.txs (listing judged)
@@ -180,7 +186,7 @@ pub record IsEnded (given : Given) (who : Option Hash256) (block : BlockFrame) (
   pub others : after.outputs ≡ spending.outputs
   pub mark : after.events ≡ spending.events + once_there who spending.rows
 
-module _ (profile : Profile) (tip : Kept) (state : State) (block : BlockFrame) (at : StandsAt tip state) (h : ℕ) (next : h ≡ tip.height + 1) where
+module _ (profile : Profile) (formed : List Formed) (tip : Kept) (state : State) (block : BlockFrame) (at : StandsAt tip state) (h : ℕ) (next : h ≡ tip.height + 1) where
   broken_is : broken_rule block state.hash state.height ≡ broken_rule block tip.hash tip.height
   broken_is = ap (λ (hash : Hash256). broken_rule block hash state.height) (sym at.hash) ∙ ap (λ (height : ℕ). broken_rule block tip.hash height) (sym at.height)
 
@@ -188,7 +194,7 @@ module _ (profile : Profile) (tip : Kept) (state : State) (block : BlockFrame) (
   height_is = sym (next ∙ ap (λ (n : ℕ). n + 1) at.height)
 
   -- the first stage refuses
-  pub shape_refuses : (refusal : Refusal) → broken_rule block tip.hash tip.height ≡ Some refusal → step_from profile state block ≡ Err refusal
+  pub shape_refuses : (refusal : Refusal) → broken_rule block tip.hash tip.height ≡ Some refusal → step_from profile formed state block ≡ Err refusal
   unfolding step_from outcome shaped
   shape_refuses refusal broken = rw (broken_is, broken) refl
 
@@ -208,71 +214,77 @@ module _ (profile : Profile) (tip : Kept) (state : State) (block : BlockFrame) (
     events_are : confirmations confirm_wait h state.rows ≡ begun.events
     events_are = ap (confirmations confirm_wait h) (sym seen_are) ∙ confirmations_seen tip.height confirm_wait h tip.rows ∙ sym begins.events
 
-    stood_is : stood state state.rows ≡ counted_at h begun
+    stood_is : stood state state.rows ≡ counted_at h begun none_committed
     unfolding stood
     stood_is =
-        ap (λ (n : ℕ). record { rows = decreased (confirmed confirm_wait n state.hash state.rows); events = confirmations confirm_wait n state.rows }) height_is
-        ∙ ap (λ (hash : Hash256). record { rows = decreased (confirmed confirm_wait h hash state.rows); events = confirmations confirm_wait h state.rows }) (sym at.hash)
-        ∙ ap (λ (l : List MnRow). record { rows = l; events = confirmations confirm_wait h state.rows }) rows_are
-        ∙ ap (λ (n : ℕ). record { rows = plain_rows h begun.rows; events = n }) events_are
+        ap (λ (n : ℕ). record { rows = decreased (confirmed confirm_wait n state.hash state.rows); events = confirmations confirm_wait n state.rows; committed = none_committed }) height_is
+        ∙ ap (λ (hash : Hash256). record { rows = decreased (confirmed confirm_wait h hash state.rows); events = confirmations confirm_wait h state.rows; committed = none_committed }) (sym at.hash)
+        ∙ ap (λ (l : List MnRow). record { rows = l; events = confirmations confirm_wait h state.rows; committed = none_committed }) rows_are
+        ∙ ap (λ (n : ℕ). record { rows = plain_rows h begun.rows; events = n; committed = none_committed }) events_are
 
-    transacted_is : transacted profile state block (stood state state.rows) ≡ from_place (given_of profile h block) block begun 1
+    transacted_is : transacted profile formed state block (stood state state.rows) ≡ from_place (given_of profile formed h block) block begun none_committed 1
     unfolding transacted
     transacted_is =
-        ap (λ (n : ℕ). transactions (record { profile = profile; height = n; outputs = state.outputs; verdicts = block.verdicts }) 1 (drop 1 block.txs) (stood state state.rows)) height_is
-        ∙ ap (λ (outs : Outputs). transactions (record { profile = profile; height = h; outputs = outs; verdicts = block.verdicts }) 1 (drop 1 block.txs) (stood state state.rows)) (sym (begins.outputs ∙ at.outputs))
-        ∙ ap (transactions (record { profile = profile; height = h; outputs = begun.outputs; verdicts = block.verdicts }) 1 (drop 1 block.txs)) stood_is
+        ap (λ (n : ℕ). transactions (record { profile = profile; height = n; outputs = state.outputs; verdicts = block.verdicts; formed = formed }) 1 (drop 1 block.txs) (stood state state.rows)) height_is
+        ∙ ap (λ (outs : Outputs). transactions (record { profile = profile; height = h; outputs = outs; verdicts = block.verdicts; formed = formed }) 1 (drop 1 block.txs) (stood state state.rows)) (sym (begins.outputs ∙ at.outputs))
+        ∙ ap (transactions (record { profile = profile; height = h; outputs = begun.outputs; verdicts = block.verdicts; formed = formed }) 1 (drop 1 block.txs)) stood_is
 
     -- the transactions refuse
-    pub transactions_refuse : (refusal : Refusal) → from_place (given_of profile h block) block begun 1 ≡ Err refusal → step_from profile state block ≡ Err refusal
+    pub transactions_refuse : (refusal : Refusal) → from_place (given_of profile formed h block) block begun none_committed 1 ≡ Err refusal → step_from profile formed state block ≡ Err refusal
     unfolding step_from outcome shaped
     transactions_refuse refusal broken = rw (broken_is, shape, transacted_is, broken) refl
 
-    module _ (value : CbTx) (judged spending after : Worked) (ends : IsEnded (given_of profile h block) (payee tip.rows) block begun judged spending after) (coinbase : coinbase_in block.txs ≡ Some value) where
-      spent_is : spent state block (counted_at h judged) ≡ seen_outcome h spending
+    -- a commitment is missing
+    pub duty_refuses : (judged : Worked) (committed : Committed) (refusal : Refusal) → from_place (given_of profile formed h block) block begun none_committed 1 ≡ Ok (counted_at h judged committed) → option_map by_block (missing formed committed.kinds) ≡ Some refusal → step_from profile formed state block ≡ Err refusal
+    unfolding step_from outcome shaped dutiful
+    duty_refuses judged committed refusal judging lacks = rw (broken_is, shape, transacted_is, judging) (rw lacks refl)
+
+    module _ (value : CbTx) (judged : Worked) (committed : Committed) (spending after : Worked) (ends : IsEnded (given_of profile formed h block) (payee tip.rows) block begun judged committed spending after) (coinbase : coinbase_in block.txs ≡ Some value) where
+      spent_is : spent state block (counted_at h judged committed) ≡ seen_outcome h spending committed.mined
       unfolding spent
       spent_is =
-          ap (λ (outs : Outputs). let l : Listing = record { rows = plain_rows h judged.rows; outputs = outs } in record { list = spend block.txs l; events = judged.events + spend_events block.txs l }) (sym at.outputs ∙ sym begins.outputs ∙ sym ends.same)
-          ∙ ap (λ (l : Listing). record { list = l; events = judged.events + spend_events block.txs (seen h (listing judged)) }) (spend_seen h block.txs (listing judged) ∙ ap (seen h) (sym ends.spends))
-          ∙ ap (λ (n : ℕ). record { list = seen h (listing spending); events = n }) (ap (λ (n : ℕ). judged.events + n) (spend_events_seen h block.txs (listing judged)) ∙ sym ends.removed)
+          ap (λ (outs : Outputs). let l : Listing = record { rows = plain_rows h judged.rows; outputs = outs } in record { list = spend block.txs l; events = judged.events + spend_events block.txs l; mined = committed.mined }) (sym at.outputs ∙ sym begins.outputs ∙ sym ends.same)
+          ∙ ap (λ (l : Listing). record { list = l; events = judged.events + spend_events block.txs (seen h (listing judged)); mined = committed.mined }) (spend_seen h block.txs (listing judged) ∙ ap (seen h) (sym ends.spends))
+          ∙ ap (λ (n : ℕ). record { list = seen h (listing spending); events = n; mined = committed.mined }) (ap (λ (n : ℕ). judged.events + n) (spend_events_seen h block.txs (listing judged)) ∙ sym ends.removed)
 
       payee_is : payee state.rows ≡ payee tip.rows
       payee_is = ap payee (sym seen_are) ∙ payee_plain tip.height tip.rows
 
-      paid_is : after_payment state (seen_outcome h spending) ≡ seen_outcome h after
+      paid_is : after_payment state (seen_outcome h spending committed.mined) ≡ seen_outcome h after committed.mined
       unfolding after_payment
       paid_is =
-          ap (λ (n : ℕ). record { list = record { rows = marked n (payee state.rows) (plain_rows h spending.rows); outputs = spending.outputs }; events = spending.events + once_there (payee state.rows) (plain_rows h spending.rows) }) height_is
-          ∙ ap (λ (who : Option Hash256). record { list = record { rows = marked h who (plain_rows h spending.rows); outputs = spending.outputs }; events = spending.events + once_there who (plain_rows h spending.rows) }) payee_is
-          ∙ ap (λ (l : List MnRow). record { list = record { rows = l; outputs = spending.outputs }; events = spending.events + once_there (payee tip.rows) (plain_rows h spending.rows) }) (sym (marked_seen h h (payee tip.rows) spending.rows) ∙ ap (plain_rows h) (sym ends.marks))
-          ∙ ap (λ (outs : Outputs). record { list = record { rows = plain_rows h after.rows; outputs = outs }; events = spending.events + once_there (payee tip.rows) (plain_rows h spending.rows) }) (sym ends.others)
-          ∙ ap (λ (n : ℕ). record { list = seen h (listing after); events = n }) (ap (λ (n : ℕ). spending.events + n) (there_seen h (payee tip.rows) spending.rows) ∙ sym ends.mark)
+          ap (λ (n : ℕ). record { list = record { rows = marked n (payee state.rows) (plain_rows h spending.rows); outputs = spending.outputs }; events = spending.events + once_there (payee state.rows) (plain_rows h spending.rows); mined = committed.mined }) height_is
+          ∙ ap (λ (who : Option Hash256). record { list = record { rows = marked h who (plain_rows h spending.rows); outputs = spending.outputs }; events = spending.events + once_there who (plain_rows h spending.rows); mined = committed.mined }) payee_is
+          ∙ ap (λ (l : List MnRow). record { list = record { rows = l; outputs = spending.outputs }; events = spending.events + once_there (payee tip.rows) (plain_rows h spending.rows); mined = committed.mined }) (sym (marked_seen h h (payee tip.rows) spending.rows) ∙ ap (plain_rows h) (sym ends.marks))
+          ∙ ap (λ (outs : Outputs). record { list = record { rows = plain_rows h after.rows; outputs = outs }; events = spending.events + once_there (payee tip.rows) (plain_rows h spending.rows); mined = committed.mined }) (sym ends.others)
+          ∙ ap (λ (n : ℕ). record { list = seen h (listing after); events = n; mined = committed.mined }) (ap (λ (n : ℕ). spending.events + n) (there_seen h (payee tip.rows) spending.rows) ∙ sym ends.mark)
 
-      outcome_is : outcome profile state block ≡ Ok (seen_outcome h after)
-      unfolding outcome shaped
-      outcome_is = rw (broken_is, shape, transacted_is, ends.judging) (rw (spent_is, paid_is) refl)
+      outcome_is : outcome profile formed state block ≡ Ok (seen_outcome h after committed.mined)
+      unfolding outcome shaped dutiful
+      outcome_is = rw (broken_is, shape, transacted_is, ends.judging) (rw ends.duty (rw (spent_is, paid_is) refl))
 
-      broken_last : (unnumbered (last_rules (coinbase_in block.txs) (seen_outcome h after))) ≡ unnumbered (last_rules (Some value) (outcome_of after))
-      broken_last = ap (λ (o : Option CbTx). unnumbered (last_rules o (seen_outcome h after))) coinbase ∙ ap unnumbered (last_seen (Some value) h after)
+      broken_last : (unnumbered (last_rules (coinbase_in block.txs) (seen_outcome h after committed.mined))) ≡ unnumbered (last_rules (Some value) (outcome_of after committed.mined))
+      broken_last = ap (λ (o : Option CbTx). unnumbered (last_rules o (seen_outcome h after committed.mined))) coinbase ∙ ap unnumbered (last_seen (Some value) h after committed.mined)
 
       -- the last rules refuse
-      pub last_refuses : (refusal : Refusal) → first_broken (unnumbered (last_rules (Some value) (outcome_of after))) ≡ Some refusal → step_from profile state block ≡ Err refusal
+      pub last_refuses : (refusal : Refusal) → first_broken (unnumbered (last_rules (Some value) (outcome_of after committed.mined))) ≡ Some refusal → step_from profile formed state block ≡ Err refusal
       unfolding step_from closed
       last_refuses refusal broken = rw (outcome_is) (rw (broken_last, broken) refl)
 
       -- nothing refuses
-      pub follows : (kept : Kept) → kept ≡ kept_of h block.hash value.rows (listing after) → first_broken (unnumbered (last_rules (Some value) (outcome_of after))) ≡ None → IsWhole kept → Follows profile state block after.events kept
+      pub follows : (kept : Kept) → kept ≡ kept_of h block.hash value.rows (listing after) (tip.mined ++ mined_at h committed.mined) → first_broken (unnumbered (last_rules (Some value) (outcome_of after committed.mined))) ≡ None → IsWhole kept → Follows profile formed state block after.events kept
       unfolding step_from closed
       follows kept is none whole = record {
-        after = state_of state block (seen h (listing after));
+        after = state_of state block (seen_outcome h after committed.mined);
         stepped = rw (outcome_is) (rw (broken_last, none) refl);
         counted = sym (ap events_in outcome_is);
         stands = record {
           height = rw is (sym height_is);
           hash = rw is refl;
-          root = rw is ((last_says value (outcome_of after) none).root ∙ ap root_of (sym (simple_seen h after.rows)));
+          root = rw is ((last_says value (outcome_of after committed.mined) none).root ∙ ap root_of (sym (simple_seen h after.rows)));
           rows = rw is (ap (λ (n : ℕ). plain_rows n after.rows) height_is);
           outputs = rw is refl;
+          mined = rw is (ap (λ (l : List MinedAt). l ++ mined_at h committed.mined) at.mined ∙ ap (λ (n : ℕ). state.mined ++ mined_at n committed.mined) (sym height_is));
           whole = whole;
         };
       }
@@ -286,6 +298,10 @@ tells_shape broken defined shapes.Memory h refuses = tt
 pub tells_more : {X Y : Type 0} (first : Result X Refusal) (defined : Result Y Refusal) (fault : PrepareFault) → Tells first fault → ((refusal : Refusal) → first ≡ Err refusal → defined ≡ Err refusal) → Tells defined fault
 tells_more first defined (faults.Refused refusal) h refuses = refuses refusal h
 tells_more first defined faults.Memory h refuses = tt
+
+pub tells_rule : {X : Type 0} (broken : Option Refusal) (defined : Result X Refusal) (fault : PrepareFault) → TellsRule broken fault → ((refusal : Refusal) → broken ≡ Some refusal → defined ≡ Err refusal) → Tells defined fault
+tells_rule broken defined (faults.Refused refusal) h refuses = refuses refusal h
+tells_rule broken defined faults.Memory h refuses = tt
 
 -- ---- few rows, outputs and events
 
@@ -305,9 +321,9 @@ working_spent h txs judged after spending working = rw spending (record {
   penalties = spend_all (λ row. row.penalty_at ≤ h) txs judged working.penalties;
 })
 
-pub next_whole : (h : ℕ) (hash : Hash256) (value : CbTx) (after : Worked) → is_zero hash.0 ≡ false → IsWorking h after.rows → OutputsAscend after.outputs → first_broken (unnumbered (last_rules (Some value) (outcome_of after))) ≡ None → IsWhole (kept_of h hash value.rows (listing after))
-next_whole h hash value after some working outputs none =
-    let lawful = last_says value (outcome_of after) none in
+pub next_whole : (h : ℕ) (hash : Hash256) (value : CbTx) (after : Worked) (mined : List MinedAt) → is_zero hash.0 ≡ false → IsWorking h after.rows → OutputsAscend after.outputs → first_broken (unnumbered (last_rules (Some value) (outcome_of after []))) ≡ None → IsWhole (kept_of h hash value.rows (listing after) mined)
+next_whole h hash value after mined some working outputs none =
+    let lawful = last_says value (outcome_of after []) none in
     record {
       hash = some;
       root = lawful.root;

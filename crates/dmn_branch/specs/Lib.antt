@@ -1,5 +1,6 @@
 pub mod Defs
 pub mod Events
+pub mod Quorums
 pub mod Step
 pub mod Replay
 pub mod Machine

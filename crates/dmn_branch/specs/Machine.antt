@@ -1,6 +1,6 @@
 -- The machine: a start record and the commands that were accepted since, what is held of them, and one command more. What
 -- the branch decides and what the top decides stand apart: a disconnect takes the branch back by a block, and leaves the top.
-use Rattle.std.specs.Prelude.{ℕ, ◌-◌, ◌&&◌, Bool, not, ◌==◌, nat_le, max, List, [], ◌∷◌, ◌++◌, length, take, drop, find, slice_get, Option, None, Some, Result, Ok, Err, if◌then◌else◌}
+use Rattle.std.specs.Prelude.{ℕ, ◌-◌, ◌&&◌, Bool, not, ◌==◌, nat_le, max, List, [], ◌∷◌, ◌++◌, length, take, drop, find, Option, None, Some, Result, Ok, Err, if◌then◌else◌}
 use Rattle.std.specs.Option.{option_map}
 use Rattle.std.specs.Str.{bytes_eq}
 use Rattle.dmn_block.specs.declared.frame.BlockFrame.{BlockFrame}
@@ -14,6 +14,8 @@ use Rattle.dmn_rows.specs.declared.rule.Rule.TheVariants.{ZeroHash, HashKnown}
 use Rattle.dmn_rows.specs.declared.start.StartRecord.{StartRecord}
 use Rattle.dmn_branch.specs.declared.fault.DisconnectRefusal.{DisconnectRefusal}
 use Rattle.dmn_branch.specs.declared.fault.DisconnectRefusal.TheVariants.{NotTip, AtStart, TooDeep}
+use Rattle.dmn_quorums.specs.Forming.{Formed}
+use Rattle.dmn_branch.specs.Quorums.{state_in}
 use Rattle.dmn_branch.specs.Step as steps
 use Rattle.dmn_branch.specs.Step.{and_then, unless, step, tip_of}
 use Rattle.dmn_branch.specs.Replay.{replay}
@@ -99,7 +101,7 @@ held_states m = drop (low m - (m.start.first - 1)) (history m)
 
 -- the state at a height that is held
 abbrev pub state_at : MachineState → ℕ → Option State
-state_at m height = slice_get (history m) (height - (m.start.first - 1))
+state_at m height = state_in m.start.first (history m) height
 
 -- the held height whose block has the hash
 abbrev pub height_of : MachineState → Hash256 → Option ℕ
@@ -119,9 +121,13 @@ hash_rules m hash = (1, when (is_zero hash.0) (by_block ZeroHash)) ∷ (2, known
 abbrev pub broken_hash : MachineState → Hash256 → Option Refusal
 broken_hash m hash = first_of (hash_rules m hash)
 
+-- the quorum of each type, for a block behind the tip
+abbrev pub formed : MachineState → List Formed
+formed m = steps.formed_on m.start (history m)
+
 -- how many events a block behind the tip has, where no rule before the last ones refuses it
 abbrev pub events : MachineState → BlockFrame → ℕ
-events m block = steps.events_from (profile m) (tip m) block
+events m block = steps.events_from (profile m) (formed m) (tip m) block
 
 abbrev pub with_command : MachineState → Command → MachineState
 with_command m command = record m { commands = m.commands ++ command ∷ [] }

@@ -1,6 +1,6 @@
 -- What a branch keeps, and which machine it stands for. This file alone says how lists are kept.
 use Rattle.std.specs.Prelude.{◌≡◌, ℕ, suc, ◌+◌, ◌-◌, ◌≤◌, ◌<◌, false, max, List, [], ◌∷◌, length, replicate, slice_index_or, Ok}
-use Rattle.std.specs.List.{All}
+use Rattle.std.specs.List.{All, AllByRecursion}
 use Rattle.dmn_block.specs.declared.frame.BlockFrame.{BlockFrame}
 use Rattle.dmn_block.specs.State.{State}
 use Rattle.dmn_bytes.specs.declared.hash.Hash256.{Hash256}
@@ -12,7 +12,10 @@ use Rattle.dmn_indexes.specs.Version as versions
 use Rattle.dmn_indexes.specs.Stands as trees
 use Rattle.dmn_branch.specs.declared.held.Held.{Held}
 use Rattle.dmn_branch.specs.declared.held.Prepared.{Prepared}
+use Rattle.dmn_payloads.specs.declared.mined.MinedAt.{MinedAt}
+use Rattle.dmn_quorums.specs.Duty.{undone}
 use Rattle.dmn_rows.specs.declared.profile.Profile.{Profile}
+use Rattle.dmn_rows.specs.declared.profile.QuorumParams.{QuorumParams}
 use Rattle.dmn_rows.specs.declared.row.MnRow.{MnRow}
 use Rattle.dmn_rows.specs.declared.start.StartRecord.{StartRecord}
 use Rattle.dmn_rows.specs.Distinct.{HasDistinctKeys}
@@ -22,10 +25,11 @@ use Rattle.dmn_rows.specs.Start.{most_outputs}
 use Rattle.dmn_sml.specs.Defs.{root_of, simple}
 use Rattle.dmn_branch.specs.Machine as machine
 use Rattle.dmn_branch.specs.Machine.{MachineState, held_states, profile, top, tip, with_block, connect}
+use Rattle.dmn_branch.specs.Quorums.{types_of}
 use Rattle.dmn_branch.specs.Replay.{IsLawful}
 use Rattle.dmn_branch.specs.Step.{most_rows}
 
--- what is kept of one height: rows with the heights of their penalties, and outputs
+-- what is kept of one height: rows with the heights of their penalties, outputs, and the commitments that were mined so far
 pub record Kept : Type 0 where
   pub height : ℕ
   -- the block's hash
@@ -34,25 +38,27 @@ pub record Kept : Type 0 where
   pub root : Hash256
   pub rows : List MnRow
   pub outputs : Outputs
+  pub mined : List MinedAt
 
-abbrev pub kept_of : ℕ → Hash256 → Hash256 → Listing → Kept
-kept_of height hash root list = record { height = height; hash = hash; root = root; rows = list.rows; outputs = list.outputs }
+abbrev pub kept_of : ℕ → Hash256 → Hash256 → Listing → List MinedAt → Kept
+kept_of height hash root list mined = record { height = height; hash = hash; root = root; rows = list.rows; outputs = list.outputs; mined = mined }
 
 -- what is kept of the height before the first block
 abbrev pub first_kept : StartRecord → Kept
-first_kept start = record { height = start.first - 1; hash = start.hash; root = record { 0 = replicate 32 0 }; rows = []; outputs = start.outputs }
+first_kept start = record { height = start.first - 1; hash = start.hash; root = record { 0 = replicate 32 0 }; rows = []; outputs = start.outputs; mined = [] }
 
--- what is held of one height, read from the arenas
-abbrev pub kept_in : Indexes → Held → Kept
-kept_in ix held = record { height = held.height; hash = held.hash; root = held.root; rows = rows_in ix held.version; outputs = outputs_in ix held.version }
+-- what is held of one height, read from the arenas, and from the list of all commitments that were mined
+abbrev pub kept_in : Indexes → List MinedAt → Held → Kept
+kept_in ix mined held = record { height = held.height; hash = held.hash; root = held.root; rows = rows_in ix held.version; outputs = outputs_in ix held.version; mined = undone held.height mined }
 
--- what a branch keeps: the versions from the lowest height that is held on, the arenas in which they are held, the lists as
--- which they read, and how many more versions there is room for
+-- what a branch keeps: the versions from the lowest height that is held on, the arenas in which they are held, the
+-- commitments that were mined, the lists as which all this reads, and how many more versions there is room for
 pub record Keeping : Type 0 where
   pub profile : Profile
   pub first : ℕ
   pub indexes : Indexes
   pub held : List Held
+  pub mined : List MinedAt
   pub lists : List Kept
   pub top : ℕ
   pub room : ℕ
@@ -76,6 +82,7 @@ pub record StandsAt (kept : Kept) (state : State) : Type 0 where
   pub root : kept.root ≡ root_of (simple state.rows)
   pub rows : plain_rows state.height kept.rows ≡ state.rows
   pub outputs : kept.outputs ≡ state.outputs
+  pub mined : kept.mined ≡ state.mined
   pub whole : IsWhole kept
 
 -- height by height
@@ -117,22 +124,32 @@ AreFrom height (kept ∷ lists) = (kept.height ≡ height) × AreFrom (suc heigh
 abbrev pub low_of : Profile → ℕ → ℕ → ℕ
 low_of profile first top = max (first - 1) (top - profile.kept)
 
+-- Behind the base of a type's window so many heights are held that the base is held too, however far the tip goes back.
+pub record HoldsBase (profile : Profile) (params : QuorumParams) : Type 0 where
+  pub interval : 0 < params.interval
+  pub behind : 1 ≤ params.from
+  pub held : profile.depth + params.to ≤ profile.kept
+
 -- What each branch keeps: a list at the lowest height that is held, and one at each height up to the tip, which is not above
--- the top. As many heights are held as a tip may go back.
+-- the top, and not below the height to which it may go back. As many heights are held as a tip may go back, and the base of
+-- each quorum whose commitment may be mined.
 pub record IsKept (profile : Profile) (first top : ℕ) (lists : List Kept) : Type 0 where
   pub begins : 1 ≤ first
   pub some : 0 < length lists
   pub heights : AreFrom (low_of profile first top) lists
   pub tip : low_of profile first top + length lists ≤ top + 1
+  pub reach : top + 1 ≤ low_of profile first top + length lists + profile.depth
   pub deep : profile.depth ≤ profile.kept
+  pub bases : AllByRecursion (HoldsBase profile) (types_of profile.quorums)
 
 -- The versions are whole, each lies below the marks of its height and of each later one, and each list keeps what lists keep.
-pub record AreSound (ix : Indexes) (held : List Held) : Type 0 where
+pub record AreSound (ix : Indexes) (mined : List MinedAt) (held : List Held) : Type 0 where
   pub versions : All (λ h. versions.IsWhole ix h.version) held
   pub below : (i j : ℕ) (d : Held) → i ≤ j → j < length held → IsBelow (slice_index_or held j d).marks (slice_index_or held i d).version
-  pub wholes : All (λ h. IsWhole (kept_in ix h)) held
+  pub wholes : All (λ h. IsWhole (kept_in ix mined h)) held
 
--- What is held of before is held, and reads as before. Only the arenas, and the room, may have grown.
+-- What is held of before is held, and reads as before. Only the arenas, the commitments above the tip, and the room may be
+-- others.
 pub record IsLeft (old new : Keeping) : Type 0 where
   pub profile : new.profile ≡ old.profile
   pub first : new.first ≡ old.first
@@ -163,7 +180,7 @@ pub record IsAboveFloor (branch : Keeping) : Type 0 where
 
 -- the list of a version that was prepared in the arenas of a branch
 abbrev pub prepared_in : Keeping → Prepared → Kept
-prepared_in branch prepared = kept_in branch.indexes prepared.next
+prepared_in branch prepared = kept_in branch.indexes branch.mined prepared.next
 
 -- The branch is as it was when this was prepared: it is the next version, and there is room for it.
 pub record IsReady (branch : Keeping) (prepared : Prepared) : Type 0 where

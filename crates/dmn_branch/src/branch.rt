@@ -1,6 +1,7 @@
 //! A branch: the lists of the heights that are held, one block more, and one less.
 
-ghost use Rattle.std.specs.Prelude.{◌≡◌, ℕ, ◌*◌, ◌+◌, ◌-◌, ◌≤◌, ◌&&◌, [], Some, IfOk, IfErr, IfSome, OnOk, OnErr, find, length, max, nat_le, slice_get, ◌<◌, Ok, Err, drop};
+ghost use Rattle.std.specs.Prelude.{◌≡◌, ℕ, ◌*◌, ◌+◌, ◌-◌, ◌≤◌, ◌&&◌, [], Some, IfOk, IfErr, IfSome, OnOk, OnErr, find, length, max, nat_le, slice_get, ◌<◌, Ok, Err, None, drop};
+ghost use Rattle.std.specs.List.{AllByRecursion};
 ghost use Rattle.std.specs.Option.{option_copied, option_map};
 ghost use Rattle.std.specs.Str.{bytes_eq};
 ghost use Rattle.dmn_block.specs.Defs.{IsBlock};
@@ -18,8 +19,9 @@ ghost use Rattle.dmn_branch.specs.declared.held.Held.{Held};
 ghost use Rattle.dmn_branch.specs.Fault.{Tells, TellsRule};
 ghost use Rattle.dmn_branch.specs.Machine as machine;
 ghost use Rattle.dmn_branch.specs.Machine.{MachineState};
-ghost use Rattle.dmn_branch.specs.Parts.{StandsIn};
-ghost use Rattle.dmn_branch.specs.Stands.{StandsFor, IsNext, IsReady, IsHeld, IsLeft, kept_in, low_kept, prepared_in, IsAboveFloor, low_of, floor_kept};
+ghost use Rattle.dmn_branch.specs.Parts.{StandsIn, IsSettled, all_formed_in, formed_in};
+ghost use Rattle.dmn_branch.specs.Quorums.{types_of};
+ghost use Rattle.dmn_branch.specs.Stands.{StandsFor, IsNext, IsReady, IsHeld, IsLeft, HoldsBase, kept_in, low_kept, prepared_in, IsAboveFloor, low_of, floor_kept};
 ghost use Rattle.dmn_branch.specs.Step.{profile_of as profile_by, most_rows};
 
 use crate::asked::{payees_of, row_of};
@@ -27,12 +29,15 @@ use crate::fault::{DisconnectRefusal, PrepareFault};
 use crate::held::{Held, Prepared};
 use crate::listing::Listing;
 use crate::origin::origin;
+use crate::quorums::inside;
+use crate::setting::Setting;
 use crate::step::advance;
 use crate::tip::Tip;
-use dmn_block::{BlockFrame, Refusal};
+use dmn_block::{BlockFrame, Refusal, check_shape};
 use dmn_bytes::{Hash256, Memory, is_zero};
 use dmn_indexes::Indexes;
-use dmn_rows::{MnRow, Profile, Rule, StartRecord, profile_of};
+use dmn_quorums::{Forming, Mined, base_of, in_window};
+use dmn_rows::{MnRow, Profile, QuorumParams, Rule, StartRecord, profile_of};
 use std::alloc::Global;
 use std::marker::Model;
 
@@ -44,6 +49,8 @@ pub struct Branch {
     indexes: Indexes,
     // From the lowest height that is held to the tip's.
     held: Vec<Held>,
+    // Those that aren't null. Above the tip stand only those of a block that was prepared.
+    mined: Mined,
     top: u32,
 }
 
@@ -53,9 +60,9 @@ impl Model for Branch {
 
     ghost Value = { Keeping };
 
-    ghost view = { λ a. record { profile = a.profile; first = a.first; indexes = a.indexes; held = a.held.items; lists = map (kept_in a.indexes) a.held.items; top = a.top; room = vec_capacity a.held - vec_len a.held } };
+    ghost view = { λ a. record { profile = a.profile; first = a.first; indexes = a.indexes; held = a.held.items; mined = a.mined; lists = map (kept_in a.indexes a.mined) a.held.items; top = a.top; room = vec_capacity a.held - vec_len a.held } };
 
-    ghost invariant = { λ a. IsKept a.profile a.first a.top (map (kept_in a.indexes) a.held.items) × AreSound a.indexes a.held.items };
+    ghost invariant = { λ a. IsKept a.profile a.first a.top (map (kept_in a.indexes a.mined) a.held.items) × AreSound a.indexes a.mined a.held.items };
 }
 
 // The profile of a start record.
@@ -113,6 +120,7 @@ impl Branch {
             first: start.first,
             indexes,
             held,
+            mined: Mined::new(alloc),
             top: start.first - 1,
         })
     }
@@ -127,7 +135,7 @@ impl Branch {
     // What is held of the tip.
     fn last(&self) -> &Held
         ensures held { slice_get self.now.held (length self.now.held - 1) ≡ Some result.now }
-        ensures last { slice_get self.now.lists (length self.now.lists - 1) ≡ Some (kept_in self.now.indexes result.now) }
+        ensures last { slice_get self.now.lists (length self.now.lists - 1) ≡ Some (kept_in self.now.indexes self.now.mined result.now) }
         ensures height { result.now.height + 1 ≡ low_kept self.now + length self.now.lists }
     {
         match self.held.last() {
@@ -183,7 +191,8 @@ impl Branch {
     // What is held of a height.
     fn held_at(&self, height: u32) -> &Held
         requires { IsHeld self.now height }
-        ensures stands { (m : MachineState) → StandsFor self.now m → StandsIn (kept_in self.now.indexes result.now) (machine.state_at m height) }
+        ensures stands { (m : MachineState) → StandsFor self.now m → StandsIn (kept_in self.now.indexes self.now.mined result.now) (machine.state_at m height) }
+        ensures list { slice_get self.now.lists (height - low_kept self.now) ≡ Some (kept_in self.now.indexes self.now.mined result.now) }
         ensures height { result.now.height ≡ height }
         ensures whole { versions.IsWhole self.now.indexes result.now.version }
         ensures few { length (versions.rows_in self.now.indexes result.now.version) ≤ most_rows }
@@ -245,14 +254,98 @@ impl Branch {
         ensures same_nodes { OnErr result (SameNodes self.old.indexes self.new.indexes) }
     {
         self.check_hash(&block.hash)?;
+        self.settle();
+        self.prepare_next(alloc, block)
+    }
+
+    // Drops the commitments of a block that was prepared and not added.
+    fn settle(&mut self)
+        ensures left { IsLeft self.old self.new }
+        ensures same { (m : MachineState) → StandsFor self.old m → StandsFor self.new m }
+        ensures settled { IsSettled self.new }
+        ensures indexes { self.new.indexes ≡ self.old.indexes }
+    {
+        let height = self.last().height;
+        self.mined.undo(height);
+    }
+
+    // Judges a block whose hash is new.
+    fn prepare_next(&mut self, alloc: Global, block: &BlockFrame) -> Result<Prepared, PrepareFault>
+        requires block { IsBlock block.now }
+        requires settled { IsSettled self.old }
+        ensures next { (m : MachineState) → StandsFor self.old m → machine.broken_hash m block.now.hash ≡ None → IfOk result (λ prepared. IsNext (prepared_in self.new prepared) m block.now) }
+        ensures refused { (m : MachineState) → StandsFor self.old m → machine.broken_hash m block.now.hash ≡ None → IfErr result (Tells (machine.connect m block.now)) }
+        ensures same { (m : MachineState) → StandsFor self.old m → StandsFor self.new m }
+        ensures ready { IfOk result (IsReady self.new) }
+        ensures left { IsLeft self.old self.new }
+        ensures events { (m : MachineState) → StandsFor self.old m → IfOk result (λ prepared. prepared.events ≡ machine.events m block.now) }
+        ensures grown { IfOk result (λ prepared. GrownBy (232 * prepared.events) self.old.indexes self.new.indexes) }
+        ensures same_nodes { OnErr result (SameNodes self.old.indexes self.new.indexes) }
+    {
         let last = *self.last();
+        let coinbase = check_shape(alloc, block, &last.hash, last.height)?;
+        let formings = self.formings(alloc, coinbase.height)?;
         if self.held.reserve(1).is_err() {
             return Err(PrepareFault::Memory);
         }
-        match advance(alloc, &self.profile, &mut self.indexes, &last, block) {
+        let profile = self.profile;
+        let verdicts = block.verdicts.as_slice();
+        let setting = Setting::new(&profile, coinbase.height, verdicts, &formings);
+        match advance(
+            alloc,
+            &setting,
+            &last,
+            block,
+            &coinbase,
+            &mut self.indexes,
+            &mut self.mined,
+        ) {
             Ok(prepared) => Ok(prepared),
             Err(fault) => Err(fault),
         }
+    }
+
+    // The quorum of each type at the height behind the tip's.
+    fn formings(&self, alloc: Global, height: u32) -> Result<Vec<Forming>, Memory>
+        requires { height ≡ low_kept self.now + length self.now.lists }
+        ensures { IfOk result (λ formings. formings.items ≡ all_formed_in self.now height self.now.profile.quorums) }
+    {
+        self.formings_of(alloc, height, &self.profile.quorums)
+    }
+
+    // The same of some types.
+    fn formings_of(
+        &self,
+        alloc: Global,
+        height: u32,
+        quorums: &[Option<QuorumParams>],
+    ) -> Result<Vec<Forming>, Memory>
+        requires next { height ≡ low_kept self.now + length self.now.lists }
+        requires bases { AllByRecursion (HoldsBase self.now.profile) (types_of quorums.now) }
+        ensures { IfOk result (λ formings. formings.items ≡ all_formed_in self.now height quorums.now) }
+    {
+        let mut formings = Vec::new(alloc);
+        for quorum in quorums {
+            if let Some(params) = quorum {
+                let forming = self.forming(alloc, height, params)?;
+                formings.push(forming).map_err(|_| Memory)?;
+            }
+        }
+        Ok(formings)
+    }
+
+    // The quorum of a type. The base of each whose commitment may be mined is held.
+    fn forming(&self, alloc: Global, height: u32, params: &QuorumParams) -> Result<Forming, Memory>
+        requires next { height ≡ low_kept self.now + length self.now.lists }
+        requires base { HoldsBase self.now.profile params.now }
+        ensures { IfOk result (λ forming. forming ≡ formed_in self.now height params.now) }
+    {
+        let done = self.mined.is_done(params, height);
+        if !in_window(params, self.first, height) {
+            return Ok(Forming::outside(alloc, params, done));
+        }
+        let base = self.held_at(base_of(params, height));
+        inside(alloc, &self.indexes, base, params, done)
     }
 
     // Rules 1 and 2, on a block's hash.
@@ -292,22 +385,27 @@ impl Branch {
         );
     }
 
-    /// Leaves the block that was prepared, and cuts its nodes off.
+    /// Leaves the block that was prepared, and cuts its nodes and its commitments off.
     pub fn abandon(&mut self, prepared: Prepared)
-        ensures { (m : MachineState) → StandsFor self.old m → StandsFor self.new m }
+        ensures same { (m : MachineState) → StandsFor self.old m → StandsFor self.new m }
+        ensures left { IsLeft self.old self.new }
+        ensures settled { IsSettled self.new }
+        ensures cut { (tip : Held) → slice_get self.new.held (length self.new.held - 1) ≡ Some tip → Cut tip.marks self.old.indexes self.new.indexes }
     {
         let _ = prepared;
         self.cut();
     }
 
-    // Cuts each arena back to the nodes that it had at the tip.
+    // Cuts each arena back to the nodes that it had at the tip, and the commitments to those at or below the tip.
     fn cut(&mut self)
         ensures left { IsLeft self.old self.new }
+        ensures settled { IsSettled self.new }
         ensures same { (m : MachineState) → StandsFor self.old m → StandsFor self.new m }
         ensures cut { (tip : Held) → slice_get self.new.held (length self.new.held - 1) ≡ Some tip → Cut tip.marks self.old.indexes self.new.indexes }
     {
-        let marks = self.last().marks;
-        self.indexes.cut(&marks);
+        let last = *self.last();
+        self.indexes.cut(&last.marks);
+        self.mined.undo(last.height);
     }
 
     /// Whether the last block, which is to have this hash, may be taken back: else why not.

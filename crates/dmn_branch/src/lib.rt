@@ -3,6 +3,7 @@
 
 mod asked;
 mod branch;
+mod commitments;
 mod confirm;
 mod fault;
 mod held;
@@ -11,6 +12,7 @@ mod limits;
 mod listing;
 mod mark;
 mod origin;
+mod quorums;
 mod setting;
 mod spends;
 mod step;

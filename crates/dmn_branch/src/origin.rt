@@ -40,7 +40,7 @@ fn put_one(list: &mut Working, output: &StartOutput) -> Result<(), Memory>
 pub fn origin(alloc: Global, start: &StartRecord, indexes: &mut Indexes) -> Result<Held, Memory>
     requires bounds { KeepsBounds start.now }
     requires ascending { OutputsAscend start.now.outputs }
-    ensures list { IfOk result (λ held. kept_in indexes.new held ≡ first_kept start.now) }
+    ensures list { IfOk result (λ held. kept_in indexes.new [] held ≡ first_kept start.now) }
     ensures version { IfOk result (λ held. versions.IsWhole indexes.new held.version) }
     ensures marks { IfOk result (λ held. held.marks ≡ marks_of indexes.new) }
 {

@@ -5,16 +5,18 @@ ghost use Rattle.std.specs.Option.{option_copied};
 ghost use Rattle.dmn_block.specs.Shape.{VerdictsAscend};
 ghost use Rattle.dmn_branch.specs.Step.{verdict_on};
 
+use dmn_quorums::Forming;
 use dmn_rows::{Profile, Verdict, find_sorted};
 use std::marker::Model;
 
-/// What the transactions of a block are judged by, besides the rows and outputs of a list. The verdicts ascend by their
-/// transactions.
+/// What the transactions of a block are judged by, besides the rows and outputs of a list and the block's commitments. The
+/// verdicts ascend by their transactions.
 #[derive(Drop)]
 pub struct Setting<'a> {
     profile: &'a Profile,
     height: u32,
     verdicts: &'a [Verdict],
+    formings: &'a [Forming],
 }
 
 impl<'a> Model for Setting<'a> {
@@ -23,21 +25,27 @@ impl<'a> Model for Setting<'a> {
 
     ghost Value = { Given };
 
-    ghost view = { λ s. record { profile = s.profile.now; height = s.height; verdicts = s.verdicts.now } };
+    ghost view = { λ s. record { profile = s.profile.now; height = s.height; verdicts = s.verdicts.now; formed = s.formings.now } };
 
     ghost invariant = { λ s. VerdictsAscend s.verdicts.now };
 }
 
 impl<'a> Setting<'a> {
     /// The setting of the block of this height.
-    pub fn new(profile: &'a Profile, height: u32, verdicts: &'a [Verdict]) -> Setting<'a>
+    pub fn new(
+        profile: &'a Profile,
+        height: u32,
+        verdicts: &'a [Verdict],
+        formings: &'a [Forming],
+    ) -> Setting<'a>
         requires { VerdictsAscend verdicts.now }
-        ensures { result ≡ record { profile = profile.now; height = height; verdicts = verdicts.now } }
+        ensures { result ≡ record { profile = profile.now; height = height; verdicts = verdicts.now; formed = formings.now } }
     {
         Setting {
             profile,
             height,
             verdicts,
+            formings,
         }
     }
 
@@ -53,6 +61,13 @@ impl<'a> Setting<'a> {
         ensures { result ≡ self.now.height }
     {
         self.height
+    }
+
+    /// What is known of the quorum of each type at the height.
+    pub fn formings(&self) -> &[Forming]
+        ensures { result.now ≡ self.now.formed }
+    {
+        self.formings
     }
 
     /// The verdict that names the transaction at a place, found by halving.

@@ -1,23 +1,26 @@
 //! One block more on a version.
 
-ghost use Rattle.std.specs.Prelude.{◌≡◌, ◌+◌, ◌≤◌, false, IfNone, ◌*◌, IfOk, OnOk, OnErr, IfErr, length};
+ghost use Rattle.std.specs.Prelude.{◌≡◌, ◌+◌, ◌≤◌, false, IfNone, ◌*◌, IfOk, List, None, OnOk, OnErr, IfErr, length};
 ghost use Rattle.std.specs.Option.{option_map};
 ghost use Rattle.dmn_block.specs.Defs.{IsBlock};
-ghost use Rattle.dmn_block.specs.Shape.{VerdictsAscend, by_block, first_broken, unnumbered};
+ghost use Rattle.dmn_block.specs.Shape.{IsPayloadOfFirst, broken_rule, by_block, first_broken, unnumbered};
 ghost use Rattle.dmn_block.specs.State.{State};
 ghost use Rattle.dmn_bytes.specs.Points.{is_zero};
 ghost use Rattle.dmn_indexes.specs.Marks.{marks_of, SameNodes};
 ghost use Rattle.dmn_indexes.specs.Version.{Keeps, GrownBy};
 ghost use Rattle.dmn_indexes.specs.Version as versions;
 ghost use Rattle.dmn_indexes.specs.Working.{Leads, listing};
+ghost use Rattle.dmn_payloads.specs.declared.commitment.Commitment.{Commitment};
+ghost use Rattle.dmn_quorums.specs.Duty.{undone};
 ghost use Rattle.dmn_rows.specs.Listing.{OutputsAscend};
 ghost use Rattle.dmn_sml.specs.Defs.{leaf, root_of, simple};
 ghost use Rattle.dmn_sml.specs.Entry.{entry_of};
-ghost use Rattle.dmn_branch.specs.Fault.{Tells};
-ghost use Rattle.dmn_branch.specs.Parts.{Follows, IsTip, IsWorking, outcome_of};
+ghost use Rattle.dmn_branch.specs.Fault.{Tells, TellsRule};
+ghost use Rattle.dmn_branch.specs.Parts.{Follows, IsMinedAt, IsTip, IsWorking, given_of, outcome_of};
 ghost use Rattle.dmn_branch.specs.Stands.{Kept, StandsAt, IsWhole, kept_of, kept_in};
 ghost use Rattle.dmn_branch.specs.Step.{last_rules, step_from, most_events, most_rows};
 
+use crate::commitments::Commitments;
 use crate::confirm::confirm;
 use crate::fault::PrepareFault;
 use crate::held::{Held, Prepared};
@@ -26,46 +29,55 @@ use crate::mark::{mark, payee};
 use crate::setting::Setting;
 use crate::spends::spend;
 use crate::transactions::judge_all;
-use dmn_block::{BlockFrame, Refusal, check_shape};
+use dmn_block::{BlockFrame, Refusal};
 use dmn_bytes::{Hash256, digest};
 use dmn_indexes::{Indexes, Working};
 use dmn_merkle::RootBuilder;
 use dmn_payloads::CbTx;
-use dmn_rows::{MOST_MASTERNODES, MOST_OUTPUTS, MnRow, Profile, Rule};
+use dmn_quorums::{Mined, missing};
+use dmn_rows::{MOST_MASTERNODES, MOST_OUTPUTS, MnRow, Rule};
 use dmn_sml::entry_of;
 use std::alloc::Global;
 use std::mem;
 
-/// Makes the version after a block that is to follow a version. The versions of before stay as they are; where a rule
-/// refuses the block or memory runs out, no node is left.
+/// Makes the version after a block of the right shape that is to follow a version, and adds the block's commitments to
+/// those that were mined. The versions of before stay as they are; where a rule refuses the block or memory runs out, no
+/// node and no commitment is left.
 #[tactic(auto, using(dmn_indexes::proofs::Counting::leads_then))]
 pub fn advance(
     alloc: Global,
-    profile: &Profile,
-    indexes: &mut Indexes,
+    setting: &Setting<'_>,
     last: &Held,
     block: &BlockFrame,
+    coinbase: &CbTx,
+    indexes: &mut Indexes,
+    mined: &mut Mined,
 ) -> Result<Prepared, PrepareFault>
     requires block { IsBlock block.now }
+    requires shape { broken_rule block.now last.now.hash last.now.height ≡ None }
+    requires payload { IsPayloadOfFirst block.now.txs coinbase.now }
+    requires next { coinbase.now.height ≡ last.now.height + 1 }
+    requires setting { setting.now ≡ given_of setting.now.profile setting.now.formed coinbase.now.height block.now }
     requires version { versions.IsWhole indexes.old last.now.version }
-    requires whole { IsWhole (kept_in indexes.old last.now) }
-    ensures next { (state : State) → StandsAt (kept_in indexes.old last.now) state → IfOk result (λ prepared. Follows profile.now state block.now prepared.events (kept_in indexes.new prepared.next)) }
-    ensures refused { (state : State) → StandsAt (kept_in indexes.old last.now) state → IfErr result (Tells (step_from profile.now state block.now)) }
+    requires whole { IsWhole (kept_in indexes.old mined.old last.now) }
+    requires settled { undone last.now.height mined.old ≡ mined.old }
+    ensures next { (state : State) → StandsAt (kept_in indexes.old mined.old last.now) state → IfOk result (λ prepared. Follows setting.now.profile setting.now.formed state block.now prepared.events (kept_in indexes.new mined.new prepared.next)) }
+    ensures refused { (state : State) → StandsAt (kept_in indexes.old mined.old last.now) state → IfErr result (Tells (step_from setting.now.profile setting.now.formed state block.now)) }
     ensures version { IfOk result (λ prepared. versions.IsWhole indexes.new prepared.next.version) }
     ensures marks { IfOk result (λ prepared. prepared.next.marks ≡ marks_of indexes.new) }
-    ensures whole { IfOk result (λ prepared. IsWhole (kept_in indexes.new prepared.next)) }
+    ensures whole { IfOk result (λ prepared. IsWhole (kept_in indexes.new mined.new prepared.next)) }
     ensures height { IfOk result (λ prepared. prepared.next.height ≡ last.now.height + 1) }
     ensures kept { Keeps indexes.old indexes.new }
+    ensures mined { undone last.now.height mined.new ≡ mined.old }
     ensures grown { IfOk result (λ prepared. GrownBy (232 * prepared.events) indexes.old indexes.new) }
     ensures same { OnErr result (SameNodes indexes.old indexes.new) }
 {
-    let coinbase = check_shape(alloc, block, &last.hash, last.height)?;
     let marks = indexes.marks();
     let mut list = Working::new(
         mem::replace(&mut *indexes, Indexes::new(alloc)),
         last.version,
     );
-    let followed = follow(alloc, profile, last, block, &coinbase, &mut list);
+    let followed = follow(alloc, setting, last, block, coinbase, &mut list, mined);
     let version = list.version();
     let events = list.events();
     *indexes = list.into_indexes();
@@ -92,31 +104,45 @@ pub fn advance(
 #[tactic(auto, using(dmn_indexes::proofs::Counting::leads_then))]
 pub fn follow(
     alloc: Global,
-    profile: &Profile,
+    setting: &Setting<'_>,
     last: &Held,
     block: &BlockFrame,
     coinbase: &CbTx,
     list: &mut Working,
+    mined: &mut Mined,
 ) -> Result<(), PrepareFault>
     requires block { IsBlock block.now }
-    requires verdicts { VerdictsAscend block.now.verdicts }
+    requires setting { setting.now ≡ given_of setting.now.profile setting.now.formed coinbase.now.height block.now }
     requires hash { is_zero block.now.hash.0 ≡ false }
     requires before { is_zero last.now.hash.0 ≡ false }
     requires root { last.now.root ≡ root_of (simple list.old.rows) }
     requires working { IsWorking coinbase.now.height list.old.rows }
-    ensures next { (tip : Kept) (state : State) → IsTip tip block.now coinbase.now list.old → tip.hash ≡ last.now.hash → StandsAt tip state → OnOk result (Follows profile.now state block.now list.new.events (kept_of coinbase.now.height block.now.hash coinbase.now.rows (listing list.new))) }
-    ensures refused { (tip : Kept) (state : State) → IsTip tip block.now coinbase.now list.old → tip.hash ≡ last.now.hash → StandsAt tip state → IfErr result (Tells (step_from profile.now state block.now)) }
-    ensures whole { OnOk result (IsWhole (kept_of coinbase.now.height block.now.hash coinbase.now.rows (listing list.new))) }
+    ensures next { (tip : Kept) (state : State) → IsTip tip block.now coinbase.now list.old mined.old → tip.hash ≡ last.now.hash → StandsAt tip state → OnOk result (Follows setting.now.profile setting.now.formed state block.now list.new.events (kept_of coinbase.now.height block.now.hash coinbase.now.rows (listing list.new) mined.new)) }
+    ensures refused { (tip : Kept) (state : State) → IsTip tip block.now coinbase.now list.old mined.old → tip.hash ≡ last.now.hash → StandsAt tip state → IfErr result (Tells (step_from setting.now.profile setting.now.formed state block.now)) }
+    ensures whole { OnOk result (IsWhole (kept_of coinbase.now.height block.now.hash coinbase.now.rows (listing list.new) mined.new)) }
+    ensures mined { OnOk result (IsMinedAt coinbase.now.height mined.old mined.new) }
+    ensures same { OnErr result (mined.new ≡ mined.old) }
     ensures few { OnOk result (list.new.events ≤ most_events) }
     ensures leads { Leads list.old list.new }
 {
     let paid = payee(list);
     confirm(coinbase.height, &last.hash, list)?;
-    let setting = Setting::new(profile, coinbase.height, block.verdicts.as_slice());
-    judge_all(alloc, &setting, block, list)?;
+    let mut committed = Commitments::new(alloc);
+    judge_all(alloc, setting, block, list, &mut committed)?;
+    refuse(missing(setting.formings(), committed.kinds()))?;
     spend(block.txs.as_slice(), block.ids.as_slice(), list)?;
     mark(&paid, coinbase.height, list)?;
-    match last_rule(coinbase, &last.root, list) {
+    refuse(last_rule(coinbase, &last.root, list))?;
+    mined.append(coinbase.height, committed.into_mined())?;
+    Ok(())
+}
+
+// Refuses a block by a rule that is broken, if one is.
+fn refuse(broken: Option<Rule>) -> Result<(), PrepareFault>
+    ensures none { OnOk result (broken ≡ None) }
+    ensures some { IfErr result (TellsRule (option_map by_block broken)) }
+{
+    match broken {
         Some(rule) => Err(PrepareFault::Refused(Refusal { rule, tx: None })),
         None => Ok(()),
     }
@@ -126,7 +152,7 @@ pub fn follow(
 #[tactic(auto, unfolding(crate::specs::Step::last_rules))]
 fn last_rule(coinbase: &CbTx, before: &Hash256, list: &Working) -> Option<Rule>
     requires { list.now.entries_changed ≡ false → before.now ≡ root_of (simple list.now.rows) }
-    ensures rule { first_broken (unnumbered (last_rules (Some coinbase.now) (outcome_of list.now))) ≡ option_map by_block result }
+    ensures rule { (mined : List Commitment) → first_broken (unnumbered (last_rules (Some coinbase.now) (outcome_of list.now mined))) ≡ option_map by_block result }
     ensures ascending { IfNone result (OutputsAscend list.now.outputs) }
 {
     if list.events() > MOST_EVENTS {

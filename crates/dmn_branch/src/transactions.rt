@@ -16,16 +16,17 @@ ghost use Rattle.dmn_tx.specs.Defs.{id_of};
 ghost use Rattle.dmn_tx.specs.Tx.{KeepsPayload, is_special as special};
 ghost use Rattle.dmn_branch.specs.Fault.{Tells};
 ghost use Rattle.dmn_branch.specs.Events.{effect_events, once_there, tx_events};
-ghost use Rattle.dmn_branch.specs.Parts.{IsWorking, IsAfter, counted_at, rule_on, from_place};
+ghost use Rattle.dmn_branch.specs.Parts.{IsWorking, IsAfter, counted_at, rule_on, setting_with, from_place};
 
+use crate::commitments::{Commitments, judge_quorum};
 use crate::fault::PrepareFault;
 use crate::setting::Setting;
 use dmn_block::{BlockFrame, Refusal};
 use dmn_bytes::{Hash256, Memory};
 use dmn_indexes::Working;
 use dmn_rows::{MnRow, Verdict};
-use dmn_rules::{Effect, JudgeFault, judge, read_other};
-use dmn_tx::{LONGEST_PAYLOAD, REGISTER_TX, REVOKE_TX, SPECIAL_VERSION, Tx};
+use dmn_rules::{Effect, JudgeFault, judge};
+use dmn_tx::{REGISTER_TX, REVOKE_TX, SPECIAL_VERSION, Tx};
 use std::alloc::Global;
 
 /// Judges the transactions behind the first, in their order, and does to the rows what they do. The outputs of the list
@@ -36,17 +37,18 @@ pub fn judge_all(
     setting: &Setting<'_>,
     block: &BlockFrame,
     list: &mut Working,
+    committed: &mut Commitments,
 ) -> Result<(), PrepareFault>
     requires block { IsBlock block.now }
     requires working { IsWorking setting.now.height list.old.rows }
-    ensures rows { OnOk result (from_place setting.now block.now list.old 1 ≡ Ok (counted_at setting.now.height list.new)) }
-    ensures refused { IfErr result (Tells (from_place setting.now block.now list.old 1)) }
+    ensures rows { OnOk result (from_place setting.now block.now list.old committed.old 1 ≡ Ok (counted_at setting.now.height list.new committed.new)) }
+    ensures refused { IfErr result (Tells (from_place setting.now block.now list.old committed.old 1)) }
     ensures outputs { OnOk result (list.new.outputs ≡ list.old.outputs) }
     ensures working { OnOk result (IsWorking setting.now.height list.new.rows) }
     ensures leads { Leads list.old list.new }
 {
     for place in 1..block.txs.len() {
-        judge_at(alloc, setting, block, place, list)?;
+        judge_at(alloc, setting, block, place, list, committed)?;
     }
     Ok(())
 }
@@ -59,12 +61,13 @@ fn judge_at(
     block: &BlockFrame,
     place: usize,
     list: &mut Working,
+    committed: &mut Commitments,
 ) -> Result<(), PrepareFault>
     requires block { IsBlock block.now }
     requires working { IsWorking setting.now.height list.old.rows }
     requires place { place < length block.now.txs }
-    ensures rows { OnOk result (from_place setting.now block.now list.old place ≡ from_place setting.now block.now list.new (place + 1)) }
-    ensures refused { IfErr result (Tells (from_place setting.now block.now list.old place)) }
+    ensures rows { OnOk result (from_place setting.now block.now list.old committed.old place ≡ from_place setting.now block.now list.new committed.new (place + 1)) }
+    ensures refused { IfErr result (Tells (from_place setting.now block.now list.old committed.old place)) }
     ensures outputs { OnOk result (list.new.outputs ≡ list.old.outputs) }
     ensures working { OnOk result (IsWorking setting.now.height list.new.rows) }
     ensures leads { Leads list.old list.new }
@@ -72,7 +75,7 @@ fn judge_at(
     let tx = &block.txs.as_slice()[place];
     let id = &block.ids.as_slice()[place];
     let verdict = setting.verdict_on(place as u32);
-    match judge_one(alloc, setting, tx, id, verdict, list) {
+    match judge_one(alloc, setting, tx, id, verdict, list, committed) {
         Ok(()) => Ok(()),
         Err(JudgeFault::Broken(rule)) => Err(PrepareFault::Refused(Refusal {
             rule,
@@ -91,18 +94,19 @@ fn judge_one(
     id: &Hash256,
     verdict: Option<&Verdict>,
     list: &mut Working,
+    committed: &mut Commitments,
 ) -> Result<(), JudgeFault>
     requires payload { KeepsPayload tx.now }
     requires id { id.now ≡ id_of tx.now }
     requires working { IsWorking setting.now.height list.old.rows }
-    ensures rule { Judges (rule_on setting.now (listing list.old) tx.now (option_copied verdict.entry)) result }
-    ensures after { OnOk result (IsAfter setting.now.height list.old tx.now list.new) }
+    ensures rule { Judges (rule_on (setting_with setting.now list.old.outputs) (counted_at setting.now.height list.old committed.old) tx.now (option_copied verdict.entry)) result }
+    ensures after { OnOk result (IsAfter setting.now list.old committed.old tx.now list.new committed.new) }
     ensures leads { Leads list.old list.new }
 {
     if !is_special(tx) {
         Ok(())
     } else if tx.kind > REVOKE_TX {
-        judge_other(alloc, tx)
+        judge_quorum(alloc, setting, tx, verdict, list, committed)
     } else {
         judge_provider(alloc, setting, tx, id, verdict, list)
     }
@@ -187,20 +191,5 @@ fn register(list: &mut Working, row: &MnRow, replaced: &Option<Hash256>) -> Resu
             list.put_row(row)?;
             Ok(())
         }
-    }
-}
-
-// Judges a special transaction that is no provider's. It changes no row.
-fn judge_other(alloc: Global, tx: &Tx) -> Result<(), JudgeFault>
-    requires other { REVOKE_TX < tx.now.kind }
-    requires short { length tx.now.payload ≤ LONGEST_PAYLOAD }
-    ensures rule { (profile : Profile) (rows : List MnRow) (outputs : Outputs) (height : ℕ) (verdict : Option Verdict)
-        → Judges (judge_of profile rows outputs height tx.now verdict) result }
-    ensures none { OnOk result ((rows : List MnRow) (outputs : Outputs) (height : ℕ) → effect_of rows outputs tx.now height ≡ rows) }
-    ensures events { (rows : List MnRow) (outputs : Outputs) (height : ℕ) → tx_events rows outputs tx.now height ≡ 0 }
-{
-    match read_other(alloc, tx) {
-        Ok(_) => Ok(()),
-        Err(fault) => Err(fault),
     }
 }

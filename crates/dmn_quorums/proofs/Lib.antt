@@ -1,5 +1,5 @@
 pub mod Numbers
-pub mod Candidates
+pub mod Ranking
 pub mod Bits
 pub mod Last
 pub mod First

@@ -3,6 +3,7 @@
 --   Number  a number by its bytes
 --   Score   scores, and members by them
 --   Duty    when a block has to have a commitment, and which quorums are active
+--   Forming  what is known of each type's quorum at a height, and the case of a commitment
 --   Digest  what a verdict on the members' signature is on
 --   Bitset  sets of bits
 --   Rules   the rules on a commitment, by tables

@@ -4,9 +4,6 @@ use Rattle.std.specs.List.{count_by, list_any, AllByRecursion}
 use Rattle.dmn_payloads.specs.declared.mined.MinedAt.{MinedAt}
 use Rattle.dmn_payloads.specs.declared.commitment.Commitment.{Commitment}
 use Rattle.dmn_rows.specs.declared.profile.QuorumParams.{QuorumParams}
-use Rattle.dmn_rows.specs.declared.rule.Rule.{Rule}
-use Rattle.dmn_rows.specs.declared.rule.Rule.TheVariants.{QuorumMissing}
-use Rattle.dmn_rows.specs.Table.{when, first_broken}
 
 -- the height of the block from which a quorum's members are drawn, by a height at which it may be mined
 abbrev pub base_of : QuorumParams → ℕ → ℕ
@@ -23,6 +20,10 @@ has_duty params start height done = is_in_window params start height && not done
 
 -- ---- mined commitments
 
+-- those of a block at a height
+abbrev pub mined_at : ℕ → List Commitment → List MinedAt
+mined_at height = map (λ c. record { height = height; commitment = c })
+
 -- one of this type, mined at or below this height
 abbrev pub is_of : QuorumParams → ℕ → MinedAt → Bool
 is_of params height m = m.commitment.kind == params.kind && nat_le m.height height
@@ -34,17 +35,6 @@ is_for params height m = m.commitment.kind == params.kind && base_of params m.he
 -- one that isn't null was mined for the base of this height
 abbrev pub is_done : QuorumParams → ℕ → List MinedAt → Bool
 is_done params height mined = list_any (is_for params height) mined
-
--- 80: a block at this height has to have a commitment of the type and has none; `kinds` are the types of the commitments
--- that it has
-unfoldable pub missing_of : ℕ → ℕ → List MinedAt → List ℕ → Option QuorumParams → Option Rule
-missing_of start height mined kinds None = None
-missing_of start height mined kinds (Some params) =
-    when (has_duty params start height (is_done params height mined) && not (list_any (λ kind. kind == params.kind) kinds)) (QuorumMissing params.kind)
-
--- the same of the first of some types
-abbrev pub missing : ℕ → ℕ → List MinedAt → List ℕ → List (Option QuorumParams) → Option Rule
-missing start height mined kinds quorums = first_broken (map (missing_of start height mined kinds) quorums)
 
 -- each type has an interval
 abbrev pub HasInterval : Option QuorumParams → Type 0

@@ -2,6 +2,7 @@ pub mod Defs
 pub mod Number
 pub mod Score
 pub mod Duty
+pub mod Forming
 pub mod Digest
 pub mod Bitset
 pub mod Rules

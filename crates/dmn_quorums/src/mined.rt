@@ -47,6 +47,18 @@ impl Mined {
             .map_err(|_| Memory)
     }
 
+    /// Adds those of a block, in their order, behind the others. Without memory nothing changes.
+    pub fn append(&mut self, height: u32, commitments: Vec<Commitment>) -> Result<(), Memory>
+        ensures ok { OnOk result (self.new ≡ self.old ++ spec.mined_at height commitments.items) }
+        ensures err { OnErr result (self.new ≡ self.old) }
+    {
+        self.items.reserve(commitments.len()).map_err(|_| Memory)?;
+        for commitment in commitments {
+            self.items.push_reserved(MinedAt { height, commitment });
+        }
+        Ok(())
+    }
+
     /// Drops those that were mined above a height.
     pub fn undo(&mut self, height: u32)
         ensures { self.new ≡ spec.undone height self.old }

@@ -16,13 +16,13 @@ same_hash m last hash is same = ap (λ (h : Hash256). bytes_eq h.0 hash.0) (sym 
 pub returns-then-ne-clause-refused : goal.returns-then-ne-clause-refused
 returns-then-ne-clause-refused c = λ m stands.
     let last = c.last-last.result.now in
-    let at = tip_stands c.args.self.now m (kept_in c.args.self.now.indexes last) stands c.last-last.ensures.last in
+    let at = tip_stands c.args.self.now m (kept_in c.args.self.now.indexes c.args.self.now.mined last) stands c.last-last.ensures.last in
     not_tip m c.args.hash.now last.hash at.hash (not-true _ (sym c.ne.ensures ∙ c.if-ne.true))
 
 pub returns-then-last-self-clause-refused : goal.returns-then-last-self-clause-refused
 returns-then-last-self-clause-refused c = λ m stands.
     let last = c.last-last.result.now in
-    let at = tip_stands c.args.self.now m (kept_in c.args.self.now.indexes last) stands c.last-last.ensures.last in
+    let at = tip_stands c.args.self.now m (kept_in c.args.self.now.indexes c.args.self.now.mined last) stands c.last-last.ensures.last in
     let same = same_hash m last.hash c.args.hash.now at.hash (not-false _ (sym c.ne.ensures ∙ c.if-ne.false)) in
     let first : c.self.inside.first ≡ m.start.first = ap (λ (b : Keeping). b.first) c.self.view_is ∙ stands.first in
     let some = subst (λ (b : Keeping). 0 < length b.lists) c.self.view_is c.self.invariant.0.some in
@@ -32,7 +32,7 @@ returns-then-last-self-clause-refused c = λ m stands.
 pub returns-then-last-floor-clause-refused : goal.returns-then-last-floor-clause-refused
 returns-then-last-floor-clause-refused c = λ m stands.
     let last = c.last-last.result.now in
-    let at = tip_stands c.args.self.now m (kept_in c.args.self.now.indexes last) stands c.last-last.ensures.last in
+    let at = tip_stands c.args.self.now m (kept_in c.args.self.now.indexes c.args.self.now.mined last) stands c.last-last.ensures.last in
     let same = same_hash m last.hash c.args.hash.now at.hash (not-false _ (sym c.ne.ensures ∙ c.if-ne.false)) in
     let first : c.self.inside.first ≡ m.start.first = ap (λ (b : Keeping). b.first) c.self.view_is ∙ stands.first in
     let floor = c.floor-floor.ensures.floor m stands in
@@ -43,6 +43,6 @@ returns-then-last-floor-clause-refused c = λ m stands.
 pub returns-clause-accepted : goal.returns-clause-accepted
 returns-clause-accepted c = λ m stands.
     let last = c.last-last.result.now in
-    let at = tip_stands c.args.self.now m (kept_in c.args.self.now.indexes last) stands c.last-last.ensures.last in
+    let at = tip_stands c.args.self.now m (kept_in c.args.self.now.indexes c.args.self.now.mined last) stands c.last-last.ensures.last in
     let same = same_hash m last.hash c.args.hash.now at.hash (not-false _ (sym c.ne.ensures ∙ c.if-ne.false)) in
     is_taken m c.args.hash.now same (omega (arith, at.height, c.floor-floor.ensures.floor m stands, c.if-last-floor.false))

@@ -11,17 +11,19 @@ keep_from-requires-clause-some c =
 pub keep_from-requires-clause-next : goal.keep_from-requires-clause-next
 keep_from-requires-clause-next c =
     let ix = c.self.inside.indexes in
+    let mined = c.self.inside.mined in
     let profile = c.self.inside.profile in
     let first = c.self.inside.first in
     let height = c.args.prepared.next.height in
     let ready = subst (λ (b : Keeping). IsReady b c.args.prepared) (sym c.self.view_is) c.requires in
     let low : c.low-low.result ≡ low_of profile first c.self.inside.top = c.low-low.ensures ∙ ap low_kept (sym c.self.view_is) in
     let more : c.low_of.result ≡ low_of profile first (max c.self.inside.top height) = c.low_of.ensures ∙ ap (low_of profile first) c.max-self-inside.ensures in
-    rw (low, more) (next_low profile first c.self.inside.top height (map (kept_in ix) c.self.inside.held.items) c.self.invariant.0 ready.next)
+    rw (low, more) (next_low profile first c.self.inside.top height (map (kept_in ix mined) c.self.inside.held.items) c.self.invariant.0 ready.next)
 
 pub invariant_of-self : goal.invariant_of-self
 invariant_of-self c =
     let ix = c.self.inside.indexes in
+    let mined = c.self.inside.mined in
     let held = c.self.inside.held.items in
     let next = c.args.prepared.next in
     let profile = c.self.inside.profile in
@@ -31,19 +33,20 @@ invariant_of-self c =
     let more : c.low_of.result ≡ low_of profile first c.max-self-inside.result = c.low_of.ensures in
     let by = c.low_of.result - c.low-low.result in
     let items : c.keep_from.new.held.items ≡ drop by (held ++ next ∷ []) = c.keep_from.ensures ∙ ap (drop by) c.push_reserved.ensures.items in
-    let lists : drop (low_of profile first c.max-self-inside.result - low_of profile first c.self.inside.top) (map (kept_in ix) held ++ kept_in ix next ∷ []) ≡ map (kept_in ix) c.keep_from.new.held.items =
-    ap (λ (n : ℕ). drop (n - low_of profile first c.self.inside.top) (map (kept_in ix) held ++ kept_in ix next ∷ [])) (sym more)
-    ∙ ap (λ (n : ℕ). drop (c.low_of.result - n) (map (kept_in ix) held ++ kept_in ix next ∷ [])) (sym low)
-    ∙ sym (lists_from ix by held c.keep_from.new.held.items next items) in
-    let kept = kept_more profile first c.self.inside.top (map (kept_in ix) held) (kept_in ix next) c.self.invariant.0 ready.next in
-    let same = subst (λ (top : ℕ). IsKept profile first top (drop (low_of profile first top - low_of profile first c.self.inside.top) (map (kept_in ix) held ++ kept_in ix next ∷ []))) (sym c.max-self-inside.ensures) kept in (
+    let lists : drop (low_of profile first c.max-self-inside.result - low_of profile first c.self.inside.top) (map (kept_in ix mined) held ++ kept_in ix mined next ∷ []) ≡ map (kept_in ix mined) c.keep_from.new.held.items =
+    ap (λ (n : ℕ). drop (n - low_of profile first c.self.inside.top) (map (kept_in ix mined) held ++ kept_in ix mined next ∷ [])) (sym more)
+    ∙ ap (λ (n : ℕ). drop (c.low_of.result - n) (map (kept_in ix mined) held ++ kept_in ix mined next ∷ [])) (sym low)
+    ∙ sym (lists_from ix mined by held c.keep_from.new.held.items next items) in
+    let kept = kept_more profile first c.self.inside.top (map (kept_in ix mined) held) (kept_in ix mined next) c.self.invariant.0 ready.next in
+    let same = subst (λ (top : ℕ). IsKept profile first top (drop (low_of profile first top - low_of profile first c.self.inside.top) (map (kept_in ix mined) held ++ kept_in ix mined next ∷ []))) (sym c.max-self-inside.ensures) kept in (
       subst (IsKept profile first c.max-self-inside.result) lists same,
-      subst (AreSound ix) (sym items) (drop_on by (held ++ next ∷ []) (push_on held next ready.version ready.marks ready.whole c.self.invariant.1)),
+      subst (AreSound ix mined) (sym items) (drop_on by (held ++ next ∷ []) (push_on held next ready.version ready.marks ready.whole c.self.invariant.1)),
     )
 
 pub returns : goal.returns
 returns c = λ m block stands next.
     let ix = c.self.inside.indexes in
+    let mined = c.self.inside.mined in
     let held = c.self.inside.held.items in
     let one = c.args.prepared.next in
     let by = c.low_of.result - c.low-low.result in
@@ -54,10 +57,10 @@ returns c = λ m block stands next.
     (record {
       profile = ap (λ (b : Keeping). b.profile) c.self.view_is;
       first = ap (λ (b : Keeping). b.first) c.self.view_is;
-      lists = lists_from ix by held c.keep_from.new.held.items one items
-          ∙ ap (λ (n : ℕ). drop (n - c.low-low.result) (map (kept_in ix) held ++ kept_in ix one ∷ [])) more
-          ∙ ap (λ (n : ℕ). drop (low_of c.self.inside.profile c.self.inside.first c.max-self-inside.result - n) (map (kept_in ix) held ++ kept_in ix one ∷ [])) low
-          ∙ ap (λ (b : Keeping). drop (low_of c.self.inside.profile c.self.inside.first c.max-self-inside.result - low_kept c.args.self.now) (b.lists ++ kept_in b.indexes one ∷ [])) c.self.view_is;
+      lists = lists_from ix mined by held c.keep_from.new.held.items one items
+          ∙ ap (λ (n : ℕ). drop (n - c.low-low.result) (map (kept_in ix mined) held ++ kept_in ix mined one ∷ [])) more
+          ∙ ap (λ (n : ℕ). drop (low_of c.self.inside.profile c.self.inside.first c.max-self-inside.result - n) (map (kept_in ix mined) held ++ kept_in ix mined one ∷ [])) low
+          ∙ ap (λ (b : Keeping). drop (low_of c.self.inside.profile c.self.inside.first c.max-self-inside.result - low_kept c.args.self.now) (b.lists ++ kept_in b.indexes b.mined one ∷ [])) c.self.view_is;
       top = c.max-self-inside.ensures ∙ ap (λ (b : Keeping). max b.top one.height) c.self.view_is;
     })
     (subst (λ (b : Keeping). 0 < length b.lists) c.self.view_is c.self.invariant.0.some)

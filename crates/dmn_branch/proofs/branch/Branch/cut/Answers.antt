@@ -1,23 +1,36 @@
-use Rattle.std.proofs.Common.{◌≡◌, ◌-◌, length, Some, refl, sym, ap, subst, ◌∙◌}
+use Rattle.std.proofs.Common.{◌≡◌, ◌-◌, ◌+◌, List, length, map, Some, refl, sym, ap, subst, ◌∙◌}
 use Rattle.std.specs.Prelude.{slice_get}
 use Rattle.dmn_indexes.specs.Marks.{Cut}
 use Rattle.dmn_branch.specs.declared.held.Held.{Held}
-use Rattle.dmn_branch.specs.Stands.{Keeping, IsKept}
+use Rattle.dmn_branch.specs.Stands.{Kept, Keeping, IsKept, kept_in, low_kept, low_of}
 use Rattle.dmn_branch.proofs.Holding.{cut_on, left_stands, some_is}
+use Rattle.dmn_branch.proofs.Mining.{alike_dropped, settled_by}
 use Rattle.dmn_branch.proofs.branch.Branch.cut.Goals as goal
 
 pub invariant_of-self : goal.invariant_of-self
 invariant_of-self c =
+    let ix = c.self.inside.indexes in
+    let mined = c.self.inside.mined in
+    let held = c.self.inside.held.items in
     let last = c.last.result.now in
+    let low = low_of c.self.inside.profile c.self.inside.first c.self.inside.top in
     let some = subst (λ (b : Keeping). slice_get b.held (length b.held - 1) ≡ Some last) (sym c.self.view_is) c.last.ensures.held in
-    let on = cut_on c.self.inside.held.items last some c.cut.ensures.kept c.self.invariant.1 in
+    let height = c.last.ensures.height ∙ ap (λ (b : Keeping). low_kept b + length b.lists) (sym c.self.view_is) in
+    let alike = alike_dropped ix mined c.undo.new.self last.height low held c.self.invariant.0.heights height c.undo.ensures in
+    let on = cut_on mined c.undo.new.self held last some c.cut.ensures.kept alike c.self.invariant.1 in
     (subst (IsKept c.self.inside.profile c.self.inside.first c.self.inside.top) (sym on.same) c.self.invariant.0, on.sound)
 
 pub returns-clause-left : goal.returns-clause-left
 returns-clause-left c =
+    let ix = c.self.inside.indexes in
+    let mined = c.self.inside.mined in
+    let held = c.self.inside.held.items in
     let last = c.last.result.now in
+    let low = low_of c.self.inside.profile c.self.inside.first c.self.inside.top in
     let some = subst (λ (b : Keeping). slice_get b.held (length b.held - 1) ≡ Some last) (sym c.self.view_is) c.last.ensures.held in
-    let on = cut_on c.self.inside.held.items last some c.cut.ensures.kept c.self.invariant.1 in
+    let height = c.last.ensures.height ∙ ap (λ (b : Keeping). low_kept b + length b.lists) (sym c.self.view_is) in
+    let alike = alike_dropped ix mined c.undo.new.self last.height low held c.self.invariant.0.heights height c.undo.ensures in
+    let on = cut_on mined c.undo.new.self held last some c.cut.ensures.kept alike c.self.invariant.1 in
     record {
       profile = ap (λ (b : Keeping). b.profile) c.self.view_is;
       first = ap (λ (b : Keeping). b.first) c.self.view_is;
@@ -28,6 +41,19 @@ returns-clause-left c =
 
 pub returns-clause-same : goal.returns-clause-same
 returns-clause-same c = λ m stands. left_stands m (returns-clause-left c) refl (invariant_of-self c).1 stands
+
+pub returns-clause-settled : goal.returns-clause-settled
+returns-clause-settled c =
+    let ix = c.self.inside.indexes in
+    let mined = c.self.inside.mined in
+    let held = c.self.inside.held.items in
+    let last = c.last.result.now in
+    let low = low_of c.self.inside.profile c.self.inside.first c.self.inside.top in
+    let some = subst (λ (b : Keeping). slice_get b.held (length b.held - 1) ≡ Some last) (sym c.self.view_is) c.last.ensures.held in
+    let height = c.last.ensures.height ∙ ap (λ (b : Keeping). low_kept b + length b.lists) (sym c.self.view_is) in
+    let alike = alike_dropped ix mined c.undo.new.self last.height low held c.self.invariant.0.heights height c.undo.ensures in
+    let on = cut_on mined c.undo.new.self held last some c.cut.ensures.kept alike c.self.invariant.1 in
+    settled_by low (length (map (kept_in c.cut.new.self c.undo.new.self) held)) last.height mined c.undo.new.self (height ∙ ap (λ (l : List Kept). low + length l) (sym on.same)) c.undo.ensures
 
 pub returns-clause-cut : goal.returns-clause-cut
 returns-clause-cut c = λ tip is.

@@ -9,7 +9,7 @@ returns-clause-height c = λ m stands.
     let hash = c.args.hash.now in
     c.height_in.ensures
     ∙ ap (held_where hash) c.deref.ensures.value
-    ∙ found_held c.self.inside.indexes hash c.self.inside.held.items
+    ∙ found_held c.self.inside.indexes c.self.inside.mined hash c.self.inside.held.items
     ∙ ap (λ (b : Keeping). height_where hash b.lists) c.self.view_is
     ∙ height_is c.args.self.now m hash stands
 
@@ -20,7 +20,7 @@ returns-clause-held c = if_some c.height_in.result (IsHeld c.args.self.now) (λ 
     ap (λ (b : Keeping). height_where hash b.lists) (sym c.self.view_is)
     ∙ sym (c.height_in.ensures
     ∙ ap (held_where hash) c.deref.ensures.value
-    ∙ found_held c.self.inside.indexes hash c.self.inside.held.items)
+    ∙ found_held c.self.inside.indexes c.self.inside.mined hash c.self.inside.held.items)
     ∙ is in
     let heights = subst (λ (b : Keeping). AreFrom (low_kept b) b.lists) c.self.view_is c.self.invariant.0.heights in
     let held = where_held (low_kept c.args.self.now) hash c.args.self.now.lists height heights there in

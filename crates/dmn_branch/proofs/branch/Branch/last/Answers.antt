@@ -11,5 +11,5 @@ returns-clause-height c =
     let ix = c.self.inside.indexes in
     let held = c.self.inside.held.items in
     let is : slice_get held (length held - 1) ≡ Some c.in-Some.held.now = ap (λ (l : List Held). slice_get l (length l - 1)) (sym c.deref.ensures.value) ∙ sym c.in-Some.ensures.value in
-    last_height (low_of c.self.inside.profile c.self.inside.first c.self.inside.top) (map (kept_in ix) held) (kept_in ix c.in-Some.held.now) c.self.invariant.0.heights (last_mapped (kept_in ix) held c.in-Some.held.now is)
+    last_height (low_of c.self.inside.profile c.self.inside.first c.self.inside.top) (map (kept_in ix c.self.inside.mined) held) (kept_in ix c.self.inside.mined c.in-Some.held.now) c.self.invariant.0.heights (last_mapped (kept_in ix c.self.inside.mined) held c.in-Some.held.now is)
     ∙ ap (λ (b : Keeping). low_kept b + length b.lists) c.self.view_is

@@ -1,11 +1,22 @@
 -- What is asked of a height that is held, by the stored rows.
-use Rattle.std.proofs.Common.{◌≡◌, ℕ, zero, suc, ◌+◌, ◌-◌, ◌≤◌, true, false, cond, List, [], ◌∷◌, ◌++◌, length, take, map, find, filter, Option, Some, None, refl, sym, ap, ◌∙◌, arith}
-use Rattle.std.specs.Prelude.{slice_get, Result, Ok, Err, IfOk}
-use Rattle.std.specs.Option.{option_map}
+use Rattle.std.proofs.Common.{◌≡◌, ℕ, zero, suc, ◌+◌, ◌-◌, ◌%◌, ◌≤◌, Bool, true, false, cond, List, [], ◌∷◌, ◌++◌, length, take, map, find, filter, Option, Some, None, refl, sym, ap, ◌∙◌, subst, inl, inr, arith}
+use Rattle.std.specs.Prelude.{◌==◌, ◌&&◌, nat_le, slice_get, Result, Ok, Err, IfOk}
+use Rattle.std.specs.List.{AllByRecursion, flat_map}
+use Rattle.std.specs.Option.{option_map, unwrap_or}
+use Rattle.std.proofs.Math.Bool.{and-false}
+use Rattle.std.proofs.lemmas.Bool.{cases_Bool}
+use Rattle.std.proofs.lemmas.List.Concat.{flat_map-cons}
 use Rattle.std.proofs.lemmas.List.{length-map, length-take, map-append, take_all}
 use Rattle.std.proofs.lemmas.Option.{slice_get-map}
 use Rattle.dmn_block.specs.State.{State}
 use Rattle.dmn_bytes.specs.declared.hash.Hash256.{Hash256}
+use Rattle.dmn_payloads.specs.declared.commitment.Commitment.{Commitment}
+use Rattle.dmn_payloads.specs.declared.mined.MinedAt.{MinedAt}
+use Rattle.dmn_quorums.specs.Duty.{active_of, all_active, is_of, last, params_of, types_of, undone}
+use Rattle.dmn_quorums.specs.Score.{members_of, modifier_of}
+use Rattle.dmn_quorums.proofs.Stored.{members_plain}
+use Rattle.dmn_rows.specs.declared.profile.Profile.{Profile}
+use Rattle.dmn_rows.specs.declared.profile.QuorumParams.{QuorumParams}
 use Rattle.dmn_rows.specs.declared.row.MnRow.{MnRow}
 use Rattle.dmn_rows.specs.Ranked.{least}
 use Rattle.dmn_rows.specs.Row.{plain}
@@ -16,9 +27,10 @@ use Rattle.dmn_rows.proofs.Ranked.{front, least_is_front, least_map}
 use Rattle.dmn_standing.specs.Payment.{forecast}
 use Rattle.dmn_standing.proofs.Turns.{forecast_plain, forecast_sorted}
 use Rattle.dmn_branch.specs.declared.held.Held.{Held}
-use Rattle.dmn_branch.specs.Asked.{IsToldOf, payee_of, payees_of, row_of, seen_at}
+use Rattle.dmn_branch.specs.Asked.{IsToldOf, members_by, members_in, payee_of, payees_of, quorums_in, row_of, seen_at}
+use Rattle.dmn_branch.specs.Machine.{MachineState, profile}
 use Rattle.dmn_branch.specs.Parts.{StandsIn}
-use Rattle.dmn_branch.specs.Stands.{AreFrom, IsHeld, Kept, Keeping, StandsAt, kept_in, low_kept}
+use Rattle.dmn_branch.specs.Stands.{AreFrom, HoldsBase, IsHeld, Kept, Keeping, StandsAt, kept_in, low_kept}
 use Rattle.dmn_branch.proofs.Ranks.{one_more}
 use Rattle.dmn_branch.proofs.Standing.{from_at}
 
@@ -72,6 +84,67 @@ pub tells_payees : (height n : ℕ) (k : Kept) (found : Option State) (hashes : 
 tells_payees height n k None hashes at is stands = absurd stands
 tells_payees height n k (Some s) hashes at is stands =
     is ∙ sym (forecast_plain height n k.rows stands.whole.rows ∙ forecast_sorted n k.rows stands.whole.rows) ∙ ap (forecast n) (rows_seen height k s at stands)
+
+-- of the commitments up to a height the active ones are those of all
+filter_undone : (params : QuorumParams) (height : ℕ) (mined : List MinedAt) → filter (is_of params height) (undone height mined) ≡ filter (is_of params height) mined
+filter_undone params height [] = refl
+filter_undone params height (m ∷ mined) =
+    let rest = filter_undone params height mined in
+    let left = λ (b : Bool). filter (is_of params height) (cond b (m ∷ undone height mined) (undone height mined)) in
+    elim (cases_Bool (nat_le m.height height)) [
+      | inl below ↦ ap left below ∙ ap (λ (l : List MinedAt). cond (is_of params height m) (m ∷ l) l) rest
+      | inr above ↦
+          let other : is_of params height m ≡ false = ap (λ b. (m.commitment.kind == params.kind) && b) above ∙ and-false (m.commitment.kind == params.kind) in
+          ap left above ∙ rest ∙ ap (λ (b : Bool). cond b (m ∷ filter (is_of params height) mined) (filter (is_of params height) mined)) (sym other)
+    ]
+
+active_undone : (mined : List MinedAt) (types : List QuorumParams) (height : ℕ) → flat_map (λ (p : QuorumParams). active_of (undone height mined) p height) types ≡ flat_map (λ (p : QuorumParams). active_of mined p height) types
+active_undone mined [] height = refl
+active_undone mined (p ∷ types) height =
+    flat_map-cons (λ (q : QuorumParams). active_of (undone height mined) q height) p types
+    ∙ ap (λ (l : List MinedAt). map (λ (m : MinedAt). m.commitment) (last p.active l) ++ flat_map (λ (q : QuorumParams). active_of (undone height mined) q height) types) (filter_undone p height mined)
+    ∙ ap (λ (l : List Commitment). active_of mined p height ++ l) (active_undone mined types height)
+    ∙ sym (flat_map-cons (λ (q : QuorumParams). active_of mined q height) p types)
+
+pub tells_quorums : (m : MachineState) (height : ℕ) (mined : List MinedAt) (k : Kept) (found : Option State) (quorums : List Commitment) → k.height ≡ height → k.mined ≡ undone k.height mined → quorums ≡ all_active mined (profile m).quorums height → StandsIn k found → IsToldOf (quorums_in m) quorums found
+tells_quorums m height mined k None quorums at kept is stands = absurd stands
+tells_quorums m height mined k (Some s) quorums at kept is stands =
+    is
+    ∙ sym (active_undone mined (types_of (profile m).quorums) height)
+    ∙ ap (λ (n : ℕ). all_active (undone n mined) (profile m).quorums n) (sym at)
+    ∙ ap (λ (l : List MinedAt). all_active l (profile m).quorums k.height) (sym kept ∙ stands.mined)
+    ∙ ap (λ (n : ℕ). all_active s.mined (profile m).quorums n) stands.height
+
+-- ---- the members of a quorum
+
+pub tells_none : (m : MachineState) (kind : ℕ) (k : Kept) (found : Option State) → params_of (profile m).quorums kind ≡ None → StandsIn k found → IsToldOf (members_in m kind) None found
+tells_none m kind k None none stands = absurd stands
+tells_none m kind k (Some s) none stands = ap (members_by m.start.first s) (sym none)
+
+members_found : (params : QuorumParams) (first height : ℕ) (k : Kept) (s : State) → k.height ≡ height → StandsAt k s
+    → members_by first s (Some params) ≡ cond (nat_le first height && ((height % params.interval) == 0)) (Some (members_of k.rows params.size (modifier_of params.kind k.hash))) None
+members_found params first height k s at stands =
+    ap (λ (n : ℕ). cond (nat_le first n && ((n % params.interval) == 0)) (Some (members_of s.rows params.size (modifier_of params.kind s.hash))) None) (sym stands.height ∙ at)
+    ∙ ap (λ (l : List Hash256). cond (nat_le first height && ((height % params.interval) == 0)) (Some l) None)
+    (ap (λ (h : Hash256). members_of s.rows params.size (modifier_of params.kind h)) (sym stands.hash)
+    ∙ ap (λ (l : List MnRow). members_of l params.size (modifier_of params.kind k.hash)) (sym (rows_seen height k s at stands))
+    ∙ members_plain height k.rows params.size (modifier_of params.kind k.hash))
+
+pub tells_members : (m : MachineState) (kind height : ℕ) (params : QuorumParams) (k : Kept) (found : Option State) (told : Option (List Hash256)) → k.height ≡ height → params_of (profile m).quorums kind ≡ Some params
+    → told ≡ cond (nat_le m.start.first height && ((height % params.interval) == 0)) (Some (members_of k.rows params.size (modifier_of params.kind k.hash))) None
+    → StandsIn k found → IsToldOf (members_in m kind) told found
+tells_members m kind height params k None told at some is stands = absurd stands
+tells_members m kind height params k (Some s) told at some is stands =
+    is ∙ sym (members_found params m.start.first height k s at stands) ∙ ap (members_by m.start.first s) (sym some)
+
+-- a type that is found is one of the profile's
+pub found_base : (profile : Profile) (kind : ℕ) (params : QuorumParams) (types : List QuorumParams) → AllByRecursion (HoldsBase profile) types → find (λ (p : QuorumParams). p.kind == kind) types ≡ Some params → HoldsBase profile params
+found_base profile kind params [] bases is = cc
+found_base profile kind params (p ∷ types) bases is = go (p.kind == kind) (λ e. found_base profile kind params types bases.1 e) is
+  where
+    go : (b : Bool) → (find (λ (q : QuorumParams). q.kind == kind) types ≡ Some params → HoldsBase profile params) → cond b (Some p) (find (λ (q : QuorumParams). q.kind == kind) types) ≡ Some params → HoldsBase profile params
+    go true later e = subst (HoldsBase profile) (ap (λ (o : Option QuorumParams). unwrap_or o params) e) bases.0
+    go false later e = later e
 
 -- what holds of a success, by what held of it before
 pub if_ok : {A E : Type 0} {P Q : A → Type 0} (r : Result A E) → ((x : A) → P x → Q x) → IfOk r P → IfOk r Q

@@ -1,5 +1,5 @@
 -- The quorums of a block's height, by what a branch keeps.
-use Rattle.std.proofs.Common.{◌≡◌, ℕ, zero, suc, ◌+◌, ◌-◌, ◌%◌, ◌<◌, ◌≤◌, max, Bool, true, false, cond, List, [], ◌∷◌, length, map, get_or, drop, Option, Some, None, refl, sym, ap, ◌∙◌, subst, arith, add-one, drop-cons}
+use Rattle.std.proofs.Common.{◌≡◌, ℕ, zero, suc, ◌+◌, ◌-◌, ◌%◌, ◌<◌, ◌≤◌, max, Bool, true, false, cond, List, [], ◌∷◌, length, map, get_or, drop, Option, Some, None, refl, sym, ap, ◌∙◌, arith, add-one, drop-cons}
 use Rattle.std.specs.Prelude.{◌&&◌, nat_le, slice_get}
 use Rattle.std.specs.List.{AllByRecursion}
 use Rattle.std.proofs.lemmas.Bool.{leb-true}
@@ -7,9 +7,9 @@ use Rattle.dmn_block.specs.State.{State}
 use Rattle.dmn_bytes.specs.declared.hash.Hash256.{Hash256}
 use Rattle.dmn_payloads.specs.declared.mined.MinedAt.{MinedAt}
 use Rattle.dmn_quorums.specs.Digest.{digest_of}
-use Rattle.dmn_quorums.specs.Duty.{base_of, is_done, is_in_window}
+use Rattle.dmn_quorums.specs.Duty.{base_of, is_done, is_in_window, types_of}
 use Rattle.dmn_quorums.specs.Forming.{Formed, inside, outside, seats}
-use Rattle.dmn_quorums.specs.Score.{members_of, modifier_of}
+use Rattle.dmn_quorums.specs.Score.{modifier_of}
 use Rattle.dmn_quorums.proofs.Stored.{members_plain, digest_plain}
 use Rattle.dmn_rows.specs.declared.profile.Profile.{Profile}
 use Rattle.dmn_rows.specs.declared.profile.QuorumParams.{QuorumParams}
@@ -18,8 +18,8 @@ use Rattle.dmn_rows.specs.Rows.{plain_rows}
 use Rattle.dmn_branch.specs.Machine as machine
 use Rattle.dmn_branch.specs.Machine.{MachineState, history, tip, state_at}
 use Rattle.dmn_branch.specs.Parts.{StandsIn, formed_in, formed_kept, all_formed_in}
-use Rattle.dmn_branch.specs.Quorums.{formed_at, formed_by, state_in, types_of}
-use Rattle.dmn_branch.specs.Stands.{HoldsBase, IsHeld, IsKept, Kept, Keeping, StandsAt, StandsFor, low_kept}
+use Rattle.dmn_branch.specs.Quorums.{formed_at, formed_by}
+use Rattle.dmn_branch.specs.Stands.{HoldsBase, IsHeld, IsKept, Kept, Keeping, StandsFor, low_kept}
 use Rattle.dmn_branch.proofs.Standing.{held_stands}
 
 -- ---- the types of a profile, one after another

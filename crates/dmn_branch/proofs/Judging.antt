@@ -4,7 +4,6 @@ use Rattle.std.specs.Prelude.{◌==◌, OnOk}
 use Rattle.std.specs.List.{All}
 use Rattle.std.specs.Option.{option_or}
 use Rattle.std.specs.Ordering.{is_lt}
-use Rattle.std.specs.Result.{result_ok}
 use Rattle.std.proofs.Math.Seq.{drop-cons}
 use Rattle.std.proofs.lemmas.Bool.{eq-eqb, ne_eqb}
 use Rattle.std.proofs.lemmas.List.Elements.{All-append, All-cons, All-filter}
@@ -35,7 +34,7 @@ use Rattle.dmn_rules.specs.Provider.{is_hash}
 use Rattle.dmn_tx.specs.declared.kinds.TheConstants.{COMMITMENT_TX}
 use Rattle.dmn_tx.specs.declared.tx.Tx.{Tx}
 use Rattle.dmn_tx.specs.Tx.{is_special}
-use Rattle.dmn_indexes.specs.Working.{Worked, listing}
+use Rattle.dmn_indexes.specs.Working.{Worked}
 use Rattle.dmn_branch.specs.Events.{tx_events}
 use Rattle.dmn_branch.specs.Parts.{Given, IsWorking, IsAfter, setting_with, counted_at, punished_at, rule_on, after_on, from_place}
 use Rattle.dmn_branch.specs.Quorums.{Committed, Punished, commitment_in, commitment_rule, punish_by, with_commitment}

@@ -11,7 +11,7 @@ use Rattle.dmn_rows.specs.Listing.{OutputsAscend}
 use Rattle.dmn_rows.specs.Start.{start_record, hash_field, most_outputs}
 use Rattle.dmn_rows.specs.Profile.{small_profile, main_profile}
 use Rattle.dmn_rows.proofs.Found.{found_keeps, found_ascends}
-use Rattle.dmn_branch.specs.Quorums.{types_of}
+use Rattle.dmn_quorums.specs.Duty.{types_of}
 use Rattle.dmn_branch.specs.Step.{profile_of}
 use Rattle.dmn_branch.specs.Machine.{MachineState, held_states, history, top}
 use Rattle.dmn_branch.specs.Stands.{Kept, Keeping, AllStand, AreSound, HoldsBase, IsWhole, IsKept, StandsAt, StandsFor, first_kept, kept_in}

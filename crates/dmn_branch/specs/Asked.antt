@@ -1,8 +1,12 @@
 -- What is asked of a branch.
-use Rattle.std.specs.Prelude.{◌≡◌, ℕ, List, length, find, filter, Option, None, Some}
+use Rattle.std.specs.Prelude.{◌≡◌, ℕ, ◌%◌, ◌==◌, ◌&&◌, nat_le, if◌then◌else◌, List, length, find, filter, Option, None, Some}
 use Rattle.std.specs.Option.{option_map}
 use Rattle.dmn_block.specs.State.{State}
 use Rattle.dmn_bytes.specs.declared.hash.Hash256.{Hash256}
+use Rattle.dmn_payloads.specs.declared.commitment.Commitment.{Commitment}
+use Rattle.dmn_quorums.specs.Duty.{all_active, params_of}
+use Rattle.dmn_quorums.specs.Score.{members_of, modifier_of}
+use Rattle.dmn_rows.specs.declared.profile.QuorumParams.{QuorumParams}
 use Rattle.dmn_rows.specs.declared.row.MnRow.{MnRow}
 use Rattle.dmn_rows.specs.Ranked.{least}
 use Rattle.dmn_rows.specs.Row.{plain}
@@ -11,7 +15,7 @@ use Rattle.dmn_rows.specs.Waiting.{is_unbanned, turn_cmp}
 use Rattle.dmn_sml.specs.Defs.{root_of, simple}
 use Rattle.dmn_standing.specs.Payment.{forecast}
 use Rattle.dmn_branch.specs.declared.tip.Tip.{Tip}
-use Rattle.dmn_branch.specs.Machine.{MachineState, tip, low, top}
+use Rattle.dmn_branch.specs.Machine.{MachineState, profile, tip, low, top}
 
 abbrev pub told : MachineState → Tip
 told m = record { height = (tip m).height; hash = (tip m).hash; low = low m; top = top m }
@@ -54,6 +58,22 @@ payee_of state = least turn_cmp (filter is_unbanned state.rows)
 -- the next payees, by their hashes
 abbrev pub payees_of : ℕ → State → List Hash256
 payees_of n state = forecast n state.rows
+
+-- The members of the quorum of a type whose base block is that of a state: none where the profile has no such type, or the
+-- height is no base of it.
+abbrev pub members_by : ℕ → State → Option QuorumParams → Option (List Hash256)
+members_by first state None = None
+members_by first state (Some params) =
+    if nat_le first state.height && state.height % params.interval == 0
+    then Some (members_of state.rows params.size (modifier_of params.kind state.hash))
+    else None
+
+abbrev pub members_in : MachineState → ℕ → State → Option (List Hash256)
+members_in m kind state = members_by m.start.first state (params_of (profile m).quorums kind)
+
+-- the active quorums of all types
+abbrev pub quorums_in : MachineState → State → List Commitment
+quorums_in m state = all_active state.mined (profile m).quorums state.height
 
 -- there is a state, and this is told of it
 abbrev pub IsToldOf : {X : Type 0} → (State → X) → X → Option State → Type 0

@@ -7,7 +7,7 @@ use Rattle.dmn_block.specs.Shape.{broken_rule}
 use Rattle.dmn_payloads.specs.declared.commitment.Commitment.{Commitment}
 use Rattle.dmn_payloads.specs.declared.mined.MinedAt.{MinedAt}
 use Rattle.dmn_payloads.specs.declared.payloads.CbTx.{CbTx}
-use Rattle.dmn_quorums.specs.Duty.{base_of, is_in_window, is_done, mined_at, undone}
+use Rattle.dmn_quorums.specs.Duty.{base_of, is_in_window, is_done, mined_at, undone, types_of}
 use Rattle.dmn_quorums.specs.Forming.{Formed, inside, outside}
 use Rattle.dmn_block.specs.State.{State}
 use Rattle.dmn_indexes.specs.Working.{Worked, listing}
@@ -17,11 +17,11 @@ use Rattle.dmn_rows.specs.declared.row.MnRow.{MnRow}
 use Rattle.dmn_rows.specs.declared.rule.Rule.{Rule}
 use Rattle.dmn_rows.specs.declared.verdict.Verdict.{Verdict}
 use Rattle.dmn_rows.specs.Distinct.{HasDistinctKeys}
-use Rattle.dmn_rows.specs.Listing.{Listing, IsAscending}
+use Rattle.dmn_rows.specs.Listing.{IsAscending}
 use Rattle.dmn_rows.specs.Rows.{Outputs, plain_rows}
 use Rattle.dmn_tx.specs.declared.tx.Tx.{Tx}
 use Rattle.dmn_tx.specs.Tx.{is_special}
-use Rattle.dmn_branch.specs.Quorums.{Committed, Punished, types_of}
+use Rattle.dmn_branch.specs.Quorums.{Committed, Punished}
 use Rattle.dmn_branch.specs.Stands.{Kept, Keeping, StandsAt, low_kept, tip_kept}
 use Rattle.dmn_branch.specs.Step.{Setting, Counted, Outcome, changed_by, rule_of, transactions, step_from, events_from, coinbase_in}
 

@@ -8,7 +8,7 @@ use Rattle.dmn_payloads.specs.declared.commitment.Commitment.{Commitment}
 use Rattle.dmn_payloads.specs.declared.mined.MinedAt.{MinedAt}
 use Rattle.dmn_payloads.specs.Commitments.{mined as mined_payload, is_null}
 use Rattle.dmn_quorums.specs.Bitset.{bit_at}
-use Rattle.dmn_quorums.specs.Duty.{base_of, is_in_window, is_done}
+use Rattle.dmn_quorums.specs.Duty.{base_of, is_in_window, is_done, types_of}
 use Rattle.dmn_quorums.specs.Forming.{Formed, case_of, inside, members_in, outside}
 use Rattle.dmn_quorums.specs.Rules as quorums
 use Rattle.dmn_rows.specs.declared.profile.Profile.{Profile}
@@ -22,12 +22,6 @@ use Rattle.dmn_tx.specs.declared.tx.Tx.{Tx}
 use Rattle.dmn_branch.specs.Events.{once_there}
 
 -- ---- what is known of each type
-
--- the types that a profile has, in its order, which is that of their numbers
-abbrev pub types_of : List (Option QuorumParams) → List QuorumParams
-types_of [] = []
-types_of (None ∷ quorums) = types_of quorums
-types_of (Some params ∷ quorums) = params ∷ types_of quorums
 
 -- the state at a height, in a history from the height before the first block on
 abbrev pub state_in : ℕ → List State → ℕ → Option State

@@ -13,7 +13,7 @@ use Rattle.dmn_indexes.specs.Stands as trees
 use Rattle.dmn_branch.specs.declared.held.Held.{Held}
 use Rattle.dmn_branch.specs.declared.held.Prepared.{Prepared}
 use Rattle.dmn_payloads.specs.declared.mined.MinedAt.{MinedAt}
-use Rattle.dmn_quorums.specs.Duty.{undone}
+use Rattle.dmn_quorums.specs.Duty.{types_of, undone}
 use Rattle.dmn_rows.specs.declared.profile.Profile.{Profile}
 use Rattle.dmn_rows.specs.declared.profile.QuorumParams.{QuorumParams}
 use Rattle.dmn_rows.specs.declared.row.MnRow.{MnRow}
@@ -25,7 +25,6 @@ use Rattle.dmn_rows.specs.Start.{most_outputs}
 use Rattle.dmn_sml.specs.Defs.{root_of, simple}
 use Rattle.dmn_branch.specs.Machine as machine
 use Rattle.dmn_branch.specs.Machine.{MachineState, held_states, profile, top, tip, with_block, connect}
-use Rattle.dmn_branch.specs.Quorums.{types_of}
 use Rattle.dmn_branch.specs.Replay.{IsLawful}
 use Rattle.dmn_branch.specs.Step.{most_rows}
 

@@ -1,6 +1,6 @@
 //! A branch: the lists of the heights that are held, one block more, and one less.
 
-ghost use Rattle.std.specs.Prelude.{◌≡◌, ℕ, ◌*◌, ◌+◌, ◌-◌, ◌≤◌, ◌&&◌, [], Some, IfOk, IfErr, IfSome, OnOk, OnErr, find, length, max, nat_le, slice_get, ◌<◌, Ok, Err, None, drop};
+ghost use Rattle.std.specs.Prelude.{◌≡◌, ℕ, ◌*◌, ◌+◌, ◌-◌, ◌≤◌, ◌&&◌, ◌%◌, ◌^◌, ◌==◌, [], Some, IfOk, IfErr, IfSome, OnOk, OnErr, find, length, max, nat_le, slice_get, ◌<◌, Ok, Err, None, drop};
 ghost use Rattle.std.specs.List.{AllByRecursion};
 ghost use Rattle.std.specs.Option.{option_copied, option_map};
 ghost use Rattle.std.specs.Str.{bytes_eq};
@@ -14,13 +14,13 @@ ghost use Rattle.dmn_rows.specs.declared.profile.Profile.{Profile};
 ghost use Rattle.dmn_rows.specs.Defs.{KeepsBounds};
 ghost use Rattle.dmn_rows.specs.Listing.{OutputsAscend};
 ghost use Rattle.dmn_rows.specs.Start.{start_record};
-ghost use Rattle.dmn_branch.specs.Asked.{told, Lends, IsToldOf, payee_of, payees_of, row_of, seen_at};
+ghost use Rattle.dmn_branch.specs.Asked.{told, Lends, IsToldOf, members_in, payee_of, payees_of, quorums_in, row_of, seen_at};
 ghost use Rattle.dmn_branch.specs.declared.held.Held.{Held};
 ghost use Rattle.dmn_branch.specs.Fault.{Tells, TellsRule};
 ghost use Rattle.dmn_branch.specs.Machine as machine;
 ghost use Rattle.dmn_branch.specs.Machine.{MachineState};
 ghost use Rattle.dmn_branch.specs.Parts.{StandsIn, IsSettled, all_formed_in, formed_in};
-ghost use Rattle.dmn_branch.specs.Quorums.{types_of};
+ghost use Rattle.dmn_quorums.specs.Duty.{types_of};
 ghost use Rattle.dmn_branch.specs.Stands.{StandsFor, IsNext, IsReady, IsHeld, IsLeft, HoldsBase, kept_in, low_kept, prepared_in, IsAboveFloor, low_of, floor_kept};
 ghost use Rattle.dmn_branch.specs.Step.{profile_of as profile_by, most_rows};
 
@@ -29,14 +29,15 @@ use crate::fault::{DisconnectRefusal, PrepareFault};
 use crate::held::{Held, Prepared};
 use crate::listing::Listing;
 use crate::origin::origin;
-use crate::quorums::inside;
+use crate::quorums::{inside, members_of};
 use crate::setting::Setting;
 use crate::step::advance;
 use crate::tip::Tip;
 use dmn_block::{BlockFrame, Refusal, check_shape};
 use dmn_bytes::{Hash256, Memory, is_zero};
 use dmn_indexes::Indexes;
-use dmn_quorums::{Forming, Mined, base_of, in_window};
+use dmn_payloads::Commitment;
+use dmn_quorums::{Forming, Mined, base_of, in_window, params_of};
 use dmn_rows::{MnRow, Profile, QuorumParams, Rule, StartRecord, profile_of};
 use std::alloc::Global;
 use std::marker::Model;
@@ -234,6 +235,46 @@ impl Branch {
         ensures few { IfOk result (λ hashes. length hashes.items ≤ count) }
     {
         payees_of(alloc, &self.indexes, &self.held_at(height).version, count)
+    }
+
+    /// The members of the quorum of a type whose base block is that of a height that is held, in their order. None exactly
+    /// where the profile has no such type, or the height is below the first block's or no multiple of the type's interval.
+    pub fn members_at(
+        &self,
+        alloc: Global,
+        kind: u8,
+        height: u32,
+    ) -> Result<Option<Vec<Hash256>>, Memory>
+        requires { IsHeld self.now height }
+        ensures members { (m : MachineState) → StandsFor self.now m → IfOk result (λ found. IsToldOf (members_in m kind) (option_map (λ hashes. hashes.items) found) (machine.state_at m height)) }
+        ensures few { IfOk result (λ found. IfSome found (λ hashes. length hashes.items < 2 ^ 16)) }
+    {
+        let held = self.held_at(height);
+        let Some(params) = params_of(&self.profile.quorums, kind) else {
+            return Ok(None);
+        };
+        if !self.is_base(height, &params) {
+            return Ok(None);
+        }
+        let members = members_of(alloc, &self.indexes, held, &params)?;
+        Ok(Some(members))
+    }
+
+    // Whether a height is a base of a type of the profile, at or above the first block's.
+    fn is_base(&self, height: u32, params: &QuorumParams) -> bool
+        requires { 0 < params.now.interval }
+        ensures { result ≡ (nat_le self.now.first height && height % params.now.interval == 0) }
+    {
+        self.first <= height && height % params.interval == 0
+    }
+
+    /// The active quorums at a height that is held: by their types, and of one type the oldest first.
+    pub fn quorums_at(&self, alloc: Global, height: u32) -> Result<Vec<Commitment>, Memory>
+        requires { IsHeld self.now height }
+        ensures { (m : MachineState) → StandsFor self.now m → IfOk result (λ quorums. IsToldOf (quorums_in m) quorums.items (machine.state_at m height)) }
+    {
+        let _held = self.held_at(height);
+        self.mined.all_active(alloc, &self.profile.quorums, height)
     }
 
     /// Judges a block that is to follow the tip, and makes the state after it, and room for that. What is held stays as

@@ -1,6 +1,6 @@
 -- When a block has to have a commitment of a type, and which quorums are active (DIP-0006).
-use Rattle.std.specs.Prelude.{ℕ, ◌-◌, ◌%◌, ◌<◌, ◌==◌, ◌&&◌, not, nat_le, Bool, List, filter, length, drop, map, Option, None, Some}
-use Rattle.std.specs.List.{count_by, list_any, AllByRecursion}
+use Rattle.std.specs.Prelude.{ℕ, ◌-◌, ◌%◌, ◌==◌, ◌&&◌, not, nat_le, Bool, List, [], ◌∷◌, filter, find, length, drop, map, Option, None, Some}
+use Rattle.std.specs.List.{count_by, flat_map, list_any}
 use Rattle.dmn_payloads.specs.declared.mined.MinedAt.{MinedAt}
 use Rattle.dmn_payloads.specs.declared.commitment.Commitment.{Commitment}
 use Rattle.dmn_rows.specs.declared.profile.QuorumParams.{QuorumParams}
@@ -36,13 +36,19 @@ is_for params height m = m.commitment.kind == params.kind && base_of params m.he
 abbrev pub is_done : QuorumParams → ℕ → List MinedAt → Bool
 is_done params height mined = list_any (is_for params height) mined
 
--- each type has an interval
-abbrev pub HasInterval : Option QuorumParams → Type 0
-HasInterval None = Unit {0}
-HasInterval (Some params) = 0 < params.interval
+-- ---- the types of a profile
 
-abbrev pub HaveIntervals : List (Option QuorumParams) → Type 0
-HaveIntervals = AllByRecursion HasInterval
+-- in its order, which is that of their numbers
+abbrev pub types_of : List (Option QuorumParams) → List QuorumParams
+types_of [] = []
+types_of (None ∷ quorums) = types_of quorums
+types_of (Some params ∷ quorums) = params ∷ types_of quorums
+
+-- the numbers of a type, where the profile has that
+abbrev pub params_of : List (Option QuorumParams) → ℕ → Option QuorumParams
+params_of quorums kind = find (λ params. params.kind == kind) (types_of quorums)
+
+-- ---- mined commitments, by heights
 
 -- those that weren't mined above a height
 abbrev pub undone : ℕ → List MinedAt → List MinedAt
@@ -59,6 +65,10 @@ active_at mined params height = last params.active (filter (is_of params height)
 -- the same, without heights
 abbrev pub active_of : List MinedAt → QuorumParams → ℕ → List Commitment
 active_of mined params height = map (λ m. m.commitment) (active_at mined params height)
+
+-- those of all types, in the order of the types
+abbrev pub all_active : List MinedAt → List (Option QuorumParams) → ℕ → List Commitment
+all_active mined quorums height = flat_map (λ params. active_of mined params height) (types_of quorums)
 
 -- how many of the type aren't among the last ones
 abbrev pub older : List MinedAt → QuorumParams → ℕ → ℕ

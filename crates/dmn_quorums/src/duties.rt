@@ -5,6 +5,20 @@ ghost use Rattle.dmn_quorums.specs.Duty as spec;
 
 use dmn_rows::QuorumParams;
 
+/// The numbers of a type, where the profile has that.
+pub fn params_of(quorums: &[Option<QuorumParams>], kind: u8) -> Option<QuorumParams>
+    ensures { result ≡ spec.params_of quorums.now kind }
+{
+    for quorum in quorums {
+        if let Some(params) = quorum {
+            if params.kind == kind {
+                return Some(*params);
+            }
+        }
+    }
+    None
+}
+
 /// The height of the block from which members are drawn for a commitment at `height`.
 pub fn base_of(params: &QuorumParams, height: u32) -> u32
     requires { 0 < params.now.interval }

@@ -17,7 +17,7 @@ mod tables;
 pub use bitset::bit_at;
 pub use case::QuorumCase;
 pub use digest::members_key;
-pub use duties::{base_of, duty, in_window};
+pub use duties::{base_of, duty, in_window, params_of};
 pub use forming::{Forming, case_of, members_in, missing};
 pub use judging::judge_commitment;
 pub use law::{digest_seen, judged_by_the_least_number, members_seen};

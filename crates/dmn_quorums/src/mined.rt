@@ -96,6 +96,34 @@ impl Mined {
     {
         active_in(alloc, &self.items, params, height)
     }
+
+    /// The active quorums of all types at a height, in the order of the types.
+    pub fn all_active(
+        &self,
+        alloc: Global,
+        quorums: &[Option<QuorumParams>],
+        height: u32,
+    ) -> Result<Vec<Commitment>, Memory>
+        ensures { IfOk result (λ list. list.items ≡ spec.all_active self.now quorums.now height) }
+    {
+        let mut all = Vec::new(alloc);
+        for quorum in quorums {
+            if let Some(params) = quorum {
+                put_all(&mut all, self.active(alloc, params, height)?)?;
+            }
+        }
+        Ok(all)
+    }
+}
+
+// Adds all behind the others.
+fn put_all(list: &mut Vec<Commitment>, more: Vec<Commitment>) -> Result<(), Memory>
+    ensures { OnOk result (list.new.items ≡ list.old.items ++ more.items) }
+{
+    for commitment in more {
+        list.push(commitment).map_err(|_| Memory)?;
+    }
+    Ok(())
 }
 
 fn is_for(params: &QuorumParams, height: u32, m: &MinedAt) -> bool

@@ -1,4 +1,4 @@
-use Rattle.std.proofs.Common.{◌≡◌, ◌+◌, ◌*◌, ℕ, false, List, refl, ap, sym, ◌∙◌, subst, arith}
+use Rattle.std.proofs.Common.{◌≡◌, ◌*◌, ℕ, false, List, refl, ap, sym, ◌∙◌, subst, arith}
 use Rattle.dmn_indexes.specs.declared.indexes.Indexes.{Indexes}
 use Rattle.dmn_indexes.specs.Marks.{IsBelow, Cut}
 use Rattle.dmn_indexes.specs.Version.{Keeps, GrownBy}

@@ -1,7 +1,7 @@
 use Rattle.std.proofs.Common.{◌≡◌, ◌++◌, drop}
 use Rattle.std.specs.List.{AllByRecursion}
 use Rattle.dmn_branch.specs.Parts.{all_formed_in}
-use Rattle.dmn_branch.specs.Quorums.{types_of}
+use Rattle.dmn_quorums.specs.Duty.{types_of}
 use Rattle.dmn_branch.specs.Stands.{HoldsBase}
 use Rattle.dmn_branch.proofs.branch.Branch.formings_of.Given as goal
 

@@ -3,7 +3,7 @@ use Rattle.std.specs.Prelude.{slice_get}
 use Rattle.std.proofs.lemmas.List.{length-map}
 use Rattle.dmn_indexes.specs.Version as versions
 use Rattle.dmn_branch.specs.declared.held.Held.{Held}
-use Rattle.dmn_branch.specs.Stands.{AreFrom, Keeping, IsHeld, IsWhole, kept_in, low_of, low_kept}
+use Rattle.dmn_branch.specs.Stands.{AreFrom, Keeping, IsHeld, kept_in, low_of, low_kept}
 use Rattle.dmn_branch.specs.Step.{most_rows}
 use Rattle.dmn_branch.proofs.Asking.{held_height, held_list}
 use Rattle.dmn_branch.proofs.Standing.{got, held_stands}

@@ -1,15 +1,15 @@
 -- What is answered to a block, and to a start record.
 use Rattle.std.proofs.Common.{◌≡◌, ℕ, true, false, List, refl, ap, inl, inr}
-use Rattle.std.specs.Prelude.{Ok, Err}
+use Rattle.std.specs.Prelude.{Ok, Err, Option, None, Some, is_some}
 use Rattle.dmn_block.specs.declared.frame.BlockFrame.{BlockFrame}
 use Rattle.dmn_branch.specs.Machine.{MachineState, tip, profile as profile_of, without_tip}
 use Rattle.dmn_branch.specs.Stands.{Keeping, StandsFor}
-use Rattle.dmn_rows.specs.declared.profile.Profile.{Profile}
 use Rattle.dmn_branch.specs.declared.fault.DisconnectRefusal.{DisconnectRefusal}
 use Rattle.dmn_branch.specs.declared.tip.Tip.{Tip}
-use Rattle.dmn_branch.specs.Asked.{told}
+use Rattle.dmn_branch.specs.Asked.{members_in, told}
 use Rattle.dmn_branch.specs.Machine as machine
 use Rattle.dmn_bytes.specs.declared.hash.Hash256.{Hash256}
+use Rattle.dmn_rows.specs.declared.profile.QuorumParams.{QuorumParams}
 use Rattle.dmn_rows.specs.declared.start.StartRecord.{StartRecord}
 use Rattle.dmn_rows.specs.Defs.{IsStartText}
 use Rattle.dmn_rows.proofs.Found.{found_reads}
@@ -19,39 +19,13 @@ use Rattle.dmn_desk.specs.declared.answer.Answer.{Answer}
 use Rattle.dmn_desk.specs.declared.answer.Answer.TheVariants.{Short}
 use Rattle.dmn_desk.specs.declared.request.Request.{Request}
 use Rattle.dmn_desk.specs.declared.request.Request.TheVariants as requests
-use Rattle.dmn_desk.specs.Ask.{ask, begun, connect, disconnect, list_at, not_back, shortly, started_by, tip_of, payees_at, row_at}
-use Rattle.dmn_desk.specs.Asked.{AddsBlock, Answers, AnswersBlock, Begins, OrMemory, TakesBack}
-use Rattle.dmn_desk.specs.Plain.{is_plain, is_plain_at}
+use Rattle.dmn_desk.specs.Ask.{ask, at_height, begun, members_by, members_or_none, connect, disconnect, list_at, not_back, shortly, started_by, tip_of, members_at, payees_at, quorums_at, row_at}
+use Rattle.dmn_desk.specs.Asked.{Answers, AnswersBlock, Begins, OrMemory, TakesBack}
 
 -- a start record is taken
 pub begins : (text : List ℕ) (start : StartRecord) (branch : Keeping) → IsStartText text start → StandsFor branch (begun start) → Begins text branch
 unfolding started_by
 begins text start branch is stands = (begun start, stands, rw (found_reads text start is) refl)
-
--- these are the first height and the tip's, of each machine that a branch stands for
-abbrev pub IsFirstOf : ℕ → Keeping → Type 0
-IsFirstOf first branch = (m : MachineState) → StandsFor branch m → first ≡ m.start.first
-
-abbrev pub IsTipOf : ℕ → Keeping → Type 0
-IsTipOf height branch = (m : MachineState) → StandsFor branch m → height ≡ (tip m).height
-
-abbrev pub IsProfileOf : Profile → Keeping → Type 0
-IsProfileOf profile branch = (m : MachineState) → StandsFor branch m → profile ≡ profile_of m
-
-plain_is : (m : MachineState) (profile : Profile) (first height : ℕ) (block : BlockFrame) → profile ≡ profile_of m → first ≡ m.start.first → height ≡ (tip m).height → is_plain_at profile first height block.txs ≡ is_plain m block
-plain_is m profile first height block by same at = rw (by, same, at) refl
-
-pub plain_answers : (block : BlockFrame) (answer : ShortAnswer) (old new : Keeping) (profile : Profile) (first height : ℕ) → IsProfileOf profile old → IsFirstOf first old → IsTipOf height old → is_plain_at profile first height block.txs ≡ true → AddsBlock block answer old new → AnswersBlock block answer old new
-unfolding connect
-plain_answers block answer old new profile first height by begins at plain adds m stands =
-    let so : is_plain m block ≡ true = rw (← plain_is m profile first height block (by m stands) (begins m stands) (at m stands)) plain in
-    rw so (adds m stands)
-
-pub other_answers : (block : BlockFrame) (old : Keeping) (profile : Profile) (first height : ℕ) → IsProfileOf profile old → IsFirstOf first old → IsTipOf height old → is_plain_at profile first height block.txs ≡ false → AnswersBlock block short.NotBuilt old old
-unfolding connect
-other_answers block old profile first height by begins at other m stands =
-    let so : is_plain m block ≡ false = rw (← plain_is m profile first height block (by m stands) (begins m stands) (at m stands)) other in
-    (m, stands, inl (rw so refl))
 
 -- the last block is taken back, and the answer tells the tip behind it
 pub takes_back : (hash : Hash256) (tip : Tip) (old new : Keeping) → ((m : MachineState) → StandsFor old m → machine.disconnect m hash ≡ Ok (without_tip m hash)) → ((m : MachineState) → StandsFor old m → StandsFor new (without_tip m hash)) → ((m : MachineState) → StandsFor new m → tip ≡ told m) → TakesBack hash (short.Disconnected tip.height tip.hash) old new
@@ -100,3 +74,16 @@ row_answers request height hash answer old is gives m stands = (m, stands, rw is
 pub payees_answers : (request : Request) (height n : ℕ) (answer : Answer) (old : Keeping) → request ≡ requests.Payees height n → ((m : MachineState) → StandsFor old m → answer ≡ payees_at m height n) → Answers request answer old old
 unfolding ask
 payees_answers request height n answer old is gives m stands = (m, stands, rw is (inl (rw (gives m stands) refl)))
+
+pub members_answers : (request : Request) (kind height : ℕ) (answer : Answer) (old : Keeping) → request ≡ requests.Members kind height → ((m : MachineState) → StandsFor old m → answer ≡ members_at m kind height) → Answers request answer old old
+unfolding ask
+members_answers request kind height answer old is gives m stands = (m, stands, rw is (inl (rw (gives m stands) refl)))
+
+pub quorums_answers : (request : Request) (height : ℕ) (answer : Answer) (old : Keeping) → request ≡ requests.Quorums height → ((m : MachineState) → StandsFor old m → answer ≡ quorums_at m height) → Answers request answer old old
+unfolding ask
+quorums_answers request height answer old is gives m stands = (m, stands, rw is (inl (rw (gives m stands) refl)))
+
+-- where the profile has the type, its members are those of the height
+pub typed : (m : MachineState) (kind height : ℕ) (o : Option QuorumParams) → is_some o ≡ true → at_height m height (λ state. members_or_none (members_in m kind state)) ≡ members_by m kind height o
+typed m kind height None some = cc
+typed m kind height (Some params) some = refl

@@ -1,6 +1,7 @@
 pub mod Listing
 mod Heights
-mod Paying
+mod Hashing
+mod Sending
 mod Rowing
 pub mod Bodies
 pub mod Asking

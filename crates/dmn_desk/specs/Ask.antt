@@ -7,13 +7,15 @@ use Rattle.dmn_block.specs.declared.refusal.Refusal.{Refusal}
 use Rattle.dmn_block.specs.State.{State}
 use Rattle.dmn_branch.specs.declared.fault.DisconnectRefusal.{DisconnectRefusal}
 use Rattle.dmn_branch.specs.declared.fault.DisconnectRefusal.TheVariants as refusals
-use Rattle.dmn_branch.specs.Asked.{payees_of, row_of}
+use Rattle.dmn_branch.specs.Asked.{members_in, payees_of, quorums_in, row_of}
 use Rattle.dmn_branch.specs.Machine as machine
 use Rattle.dmn_branch.specs.Machine.{MachineState, is_held, low, state_at, tip, top}
 use Rattle.dmn_bytes.specs.declared.fault.Departure.{Departure}
 use Rattle.dmn_bytes.specs.declared.hash.Hash256.{Hash256}
 use Rattle.dmn_bytes.specs.Format.{whole}
 use Rattle.dmn_bytes.specs.Law.{place_of}
+use Rattle.dmn_quorums.specs.Duty.{params_of}
+use Rattle.dmn_rows.specs.declared.profile.QuorumParams.{QuorumParams}
 use Rattle.dmn_rows.specs.declared.row.MnRow.{MnRow}
 use Rattle.dmn_rows.specs.declared.start.StartRecord.{StartRecord}
 use Rattle.dmn_rows.specs.Start.{start_record}
@@ -28,7 +30,6 @@ use Rattle.dmn_desk.specs.declared.limits.TheConstants.{HEAD, LONGEST_BODY, STAR
 use Rattle.dmn_desk.specs.declared.request.Request.{Request}
 use Rattle.dmn_desk.specs.declared.request.Request.TheVariants as requests
 use Rattle.dmn_desk.specs.Kinds.{is_built, kind_of}
-use Rattle.dmn_desk.specs.Plain.{is_plain}
 use Rattle.dmn_desk.specs.Requests.{request_of}
 
 -- ---- requests
@@ -65,13 +66,29 @@ row_at m height hash = at_height m height (λ state. row_or_none height (row_of 
 abbrev pub payees_at : MachineState → ℕ → ℕ → Answer
 payees_at m height n = at_height m height (λ state. Grown (grown.Payees (payees_of n state)))
 
+-- the members, where the height is a base of the type
+abbrev pub members_or_none : Option (List Hash256) → Answer
+members_or_none None = Short short.NoSuch
+members_or_none (Some hashes) = Grown (grown.Members hashes)
+
+abbrev pub members_by : MachineState → ℕ → ℕ → Option QuorumParams → Answer
+members_by m kind height None = Short short.NoSuch
+members_by m kind height (Some params) = at_height m height (λ state. members_or_none (members_in m kind state))
+
+-- the profile has the type, and then the height is held
+abbrev pub members_at : MachineState → ℕ → ℕ → Answer
+members_at m kind height = members_by m kind height (params_of (machine.profile m).quorums kind)
+
+abbrev pub quorums_at : MachineState → ℕ → Answer
+quorums_at m height = at_height m height (λ state. Grown (grown.Quorums (quorums_in m state)))
+
 abbrev pub connected : MachineState → Result MachineState Refusal → ShortAnswer × MachineState
 connected m (Ok next) = (short.Connected (tip next).height (tip next).hash, next)
 connected m (Err refusal) = (short.Refused refusal, m)
 
--- a plain block is judged
+-- a block is added, or refused
 unfoldable pub connect : MachineState → BlockFrame → ShortAnswer × MachineState
-connect m block = if is_plain m block then connected m (machine.connect m block) else (short.NotBuilt, m)
+connect m block = connected m (machine.connect m block)
 
 abbrev pub not_back : DisconnectRefusal → ShortAnswer
 not_back (refusals.NotTip tip) = short.NotTip tip
@@ -97,6 +114,8 @@ ask m requests.Tip = (Short (tip_of m), m)
 ask m (requests.List height) = (list_at m height, m)
 ask m (requests.Row height hash) = (row_at m height hash, m)
 ask m (requests.Payees height count) = (payees_at m height count, m)
+ask m (requests.Members kind base) = (members_at m kind base, m)
+ask m (requests.Quorums height) = (quorums_at m height, m)
 ask m request = (Short short.NotBuilt, m)
 
 -- ---- frames

@@ -1,7 +1,6 @@
 -- What a desk answers: what is defined, or want of memory, which is free for most requests.
 use Rattle.std.specs.Prelude.{◌≡◌, ◌⊎◌, ℕ, Bool, false, List, None, Some}
 use Rattle.dmn_block.specs.declared.frame.BlockFrame.{BlockFrame}
-use Rattle.dmn_branch.specs.Machine as machine
 use Rattle.dmn_branch.specs.Machine.{MachineState}
 use Rattle.dmn_branch.specs.Stands.{Keeping, StandsFor}
 use Rattle.dmn_bytes.specs.declared.hash.Hash256.{Hash256}
@@ -12,7 +11,7 @@ use Rattle.dmn_desk.specs.declared.answer.Answer.TheVariants.{Short}
 use Rattle.dmn_desk.specs.declared.answer.ShortAnswer.{ShortAnswer}
 use Rattle.dmn_desk.specs.declared.answer.ShortAnswer.TheVariants as short
 use Rattle.dmn_desk.specs.declared.request.Request.{Request}
-use Rattle.dmn_desk.specs.Ask.{ask, connect, connected, disconnect, started_by}
+use Rattle.dmn_desk.specs.Ask.{ask, connect, disconnect, started_by}
 use Rattle.dmn_desk.specs.Kinds.{takes_no_memory}
 use Rattle.dmn_desk.specs.Requests.{kind_by}
 
@@ -28,10 +27,6 @@ Answers request answer old new =
 -- the same of a block
 abbrev pub AnswersBlock : BlockFrame → ShortAnswer → Keeping → Keeping → Type 0
 AnswersBlock block answer old new = (m : MachineState) → StandsFor old m → (n : MachineState) × StandsFor new n × OrMemory short.Memory false (connect m block) m answer n
-
--- and of a block that is plain
-abbrev pub AddsBlock : BlockFrame → ShortAnswer → Keeping → Keeping → Type 0
-AddsBlock block answer old new = (m : MachineState) → StandsFor old m → (n : MachineState) × StandsFor new n × OrMemory short.Memory false (connected m (machine.connect m block)) m answer n
 
 -- and of the block that is taken back, which takes no memory
 abbrev pub TakesBack : Hash256 → ShortAnswer → Keeping → Keeping → Type 0

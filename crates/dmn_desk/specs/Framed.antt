@@ -5,6 +5,8 @@ use Rattle.std.specs.Int.{w16, w32, to_le_bytes}
 use Rattle.dmn_block.specs.declared.refusal.Refusal.{Refusal}
 use Rattle.dmn_bytes.specs.declared.hash.Hash256.{Hash256}
 use Rattle.dmn_bytes.specs.Format.{hash}
+use Rattle.dmn_payloads.specs.declared.commitment.Commitment.{Commitment}
+use Rattle.dmn_payloads.specs.Commitments.{commitment}
 use Rattle.dmn_rows.specs.Rule.{rule_number}
 use Rattle.dmn_sml.specs.declared.entry.SmlEntry.{SmlEntry}
 use Rattle.dmn_sml.specs.Entry.{entry}
@@ -27,13 +29,17 @@ held_body low high = to_le_bytes w32 low ++ to_le_bytes w32 high
 unfoldable pub list_body : ℕ → Hash256 → Hash256 → List SmlEntry → List ℕ
 list_body height hash root entries = to_le_bytes w32 height ++ hash.0 ++ root.0 ++ to_le_bytes w32 (length entries) ++ flat_map entry.text entries
 
--- as many payees as the count tells
-abbrev pub most_payees : ℕ
-most_payees = 65535
+-- as many items as a count tells
+abbrev pub most_items : ℕ
+most_items = 65535
 
--- the count of the payees and their hashes
-unfoldable pub payees_body : List Hash256 → List ℕ
-payees_body hashes = to_le_bytes w16 (length hashes) ++ flat_map hash.text hashes
+-- the count of payees, or of members, and their hashes
+unfoldable pub hashes_body : List Hash256 → List ℕ
+hashes_body hashes = to_le_bytes w16 (length hashes) ++ flat_map hash.text hashes
+
+-- the count of commitments, and their texts
+unfoldable pub quorums_body : List Commitment → List ℕ
+quorums_body commitments = to_le_bytes w16 (length commitments) ++ flat_map commitment.text commitments
 
 -- a transaction's place in its block, or all bits set where the rule names none
 abbrev pub place_or_none : Option ℕ → ℕ

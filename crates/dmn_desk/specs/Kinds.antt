@@ -30,6 +30,8 @@ is_built Tip = true
 is_built ListKind = true
 is_built Row = true
 is_built Payees = true
+is_built Members = true
+is_built Quorums = true
 is_built kind = false
 
 -- how much of a body is read

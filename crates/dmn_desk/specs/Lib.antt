@@ -1,7 +1,6 @@
 pub mod Defs
 pub mod Kinds
 pub mod Requests
-pub mod Plain
 pub mod RuleFields
 pub mod Framed
 pub mod Texts

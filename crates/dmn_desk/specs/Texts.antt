@@ -8,7 +8,8 @@ use Rattle.dmn_desk.specs.declared.answer.GrownAnswer.{GrownAnswer}
 use Rattle.dmn_desk.specs.declared.answer.GrownAnswer.TheVariants as grown
 use Rattle.dmn_desk.specs.declared.answer.ShortAnswer.{ShortAnswer}
 use Rattle.dmn_desk.specs.declared.answer.ShortAnswer.TheVariants.{Started, Connected, Disconnected, Tip, Memory, BadRequest, NotHeld, Refused, NotTip, AtStart, TooDeep, NotBuilt, NoSuch}
-use Rattle.dmn_desk.specs.Framed.{framed, connected_body, tip_body, held_body, list_body, refused_body, most_payees, payees_body}
+use Rattle.dmn_desk.specs.Framed.{framed, connected_body, tip_body, held_body, list_body, refused_body, most_items, hashes_body, quorums_body}
+use Rattle.dmn_payloads.specs.declared.commitment.Commitment.{Commitment}
 use Rattle.dmn_rows.specs.RowText.{row_text}
 
 abbrev pub short_status : ShortAnswer → ℕ
@@ -44,7 +45,9 @@ short_body NotBuilt = []
 unfoldable pub grown_body : GrownAnswer → List ℕ
 grown_body (grown.List height hash root entries) = list_body height hash root entries
 grown_body (grown.Row r) = row_text r.penalty_at r
-grown_body (grown.Payees hashes) = payees_body hashes
+grown_body (grown.Payees hashes) = hashes_body hashes
+grown_body (grown.Members hashes) = hashes_body hashes
+grown_body (grown.Quorums commitments) = quorums_body commitments
 
 -- an answer that grows is always an Ok
 abbrev pub status_of : Answer → ℕ
@@ -67,12 +70,19 @@ abbrev pub is_short : Answer → Bool
 is_short (answers.Short answer) = true
 is_short (answers.Grown answer) = false
 
+-- the count and the length of these commitments fit their fields
+pub record IsSendable (commitments : List Commitment) : Type 0 where
+  pub count : length commitments ≤ most_items
+  pub body : length (quorums_body commitments) < 2 ^ 32
+
 -- what an answer that grows keeps, so that its length fits its field
 abbrev pub IsBounded : Answer → Type 0
 IsBounded (answers.Short answer) = Unit {0}
 IsBounded (answers.Grown (grown.List height hash root entries)) = length entries ≤ most_rows
 IsBounded (answers.Grown (grown.Row r)) = Unit {0}
-IsBounded (answers.Grown (grown.Payees hashes)) = length hashes ≤ most_payees
+IsBounded (answers.Grown (grown.Payees hashes)) = length hashes ≤ most_items
+IsBounded (answers.Grown (grown.Members hashes)) = length hashes ≤ most_items
+IsBounded (answers.Grown (grown.Quorums commitments)) = IsSendable commitments
 
 -- the length of the body fits its field
 abbrev pub Fits : Answer → Type 0

@@ -2,6 +2,7 @@
 
 use dmn_block::Refusal;
 use dmn_bytes::{Hash256, Items};
+use dmn_payloads::Commitment;
 use dmn_rows::MnRow;
 use dmn_sml::SmlEntry;
 
@@ -47,7 +48,8 @@ pub enum ShortAnswer {
         low: u32,
         high: u32,
     },
-    /// The height is held, and the list has no such masternode.
+    /// There is no such masternode in the list of a height that is held; or no such type of quorum, or no base of it at such a
+    /// height.
     NoSuch,
     /// The block is refused by a rule, which a transaction breaks.
     Refused(Refusal),
@@ -80,4 +82,9 @@ pub enum GrownAnswer {
     Row(MnRow),
     /// The next masternodes to be paid, in their order. They are at most 65,535.
     Payees(Items<Hash256>),
+    /// The members of a quorum, in their order. They are at most 65,535.
+    Members(Items<Hash256>),
+    /// The commitments of the active quorums: by their types, and of one type the oldest first. Their count and the length
+    /// of their texts fit the fields of a frame.
+    Quorums(Items<Commitment>),
 }

@@ -5,14 +5,15 @@ ghost use Rattle.dmn_block.specs.Defs.{IsBlock};
 ghost use Rattle.dmn_branch.specs.Machine.{MachineState};
 ghost use Rattle.dmn_branch.specs.Stands.{StandsFor};
 ghost use Rattle.dmn_desk.specs.Ask.{tip_of};
-ghost use Rattle.dmn_desk.specs.Asked.{AddsBlock, Answers, AnswersBlock, TakesBack};
+ghost use Rattle.dmn_desk.specs.Asked.{Answers, AnswersBlock, TakesBack};
 ghost use Rattle.dmn_desk.specs.Requests.{IsRequest};
 ghost use Rattle.dmn_desk.specs.Texts.{IsBounded};
 
 use crate::answer::{Answer, ShortAnswer};
 use crate::list::list_at;
+use crate::members::members_at;
 use crate::payees::payees_at;
-use crate::plain::is_plain;
+use crate::quorums::quorums_at;
 use crate::request::Request;
 use crate::row::row_at;
 use dmn_block::BlockFrame;
@@ -36,10 +37,11 @@ fn tip_of(branch: &Branch) -> ShortAnswer
     }
 }
 
-// Adds a plain block where no rule refuses it.
-fn add(alloc: Global, branch: &mut Branch, block: &BlockFrame) -> ShortAnswer
+// Adds a block where no rule refuses it.
+#[tactic(auto, unfolding(crate::specs::Ask::connect))]
+fn connect(alloc: Global, branch: &mut Branch, block: &BlockFrame) -> ShortAnswer
     requires { IsBlock block.now }
-    ensures { AddsBlock block.now result branch.old branch.new }
+    ensures { AnswersBlock block.now result branch.old branch.new }
 {
     match branch.prepare(alloc, block) {
         Ok(prepared) => {
@@ -52,19 +54,6 @@ fn add(alloc: Global, branch: &mut Branch, block: &BlockFrame) -> ShortAnswer
         }
         Err(PrepareFault::Refused(refusal)) => ShortAnswer::Refused(refusal),
         Err(PrepareFault::Memory) => ShortAnswer::Memory,
-    }
-}
-
-fn connect(alloc: Global, branch: &mut Branch, block: &BlockFrame) -> ShortAnswer
-    requires { IsBlock block.now }
-    ensures { AnswersBlock block.now result branch.old branch.new }
-{
-    let first = branch.first();
-    let height = branch.tip().height;
-    if is_plain(branch.profile(), first, height, block.txs.as_slice()) {
-        add(alloc, branch, block)
-    } else {
-        ShortAnswer::NotBuilt
     }
 }
 
@@ -116,9 +105,15 @@ impl Desk {
                     Err(_) => Answer::Short(ShortAnswer::Memory),
                 }
             }
-            Request::Members { .. }
-            | Request::Quorums { .. }
-            | Request::Diff { .. }
+            Request::Members { kind, base } => match members_at(alloc, branch, *kind, *base) {
+                Ok(answer) => answer,
+                Err(_) => Answer::Short(ShortAnswer::Memory),
+            },
+            Request::Quorums { height } => match quorums_at(alloc, branch, *height) {
+                Ok(answer) => answer,
+                Err(_) => Answer::Short(ShortAnswer::Memory),
+            },
+            Request::Diff { .. }
             | Request::Pin { .. }
             | Request::Page { .. }
             | Request::Release { .. } => Answer::Short(ShortAnswer::NotBuilt),

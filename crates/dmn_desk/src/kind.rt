@@ -50,10 +50,15 @@ impl Kind {
         ensures { result ≡ is_built self }
     {
         match self {
-            Kind::Connect | Kind::Disconnect | Kind::Tip | Kind::List | Kind::Row | Kind::Payees =>
-                true,
-            Kind::Members | Kind::Quorums | Kind::Diff | Kind::Pin | Kind::Page | Kind::Release =>
-                false,
+            Kind::Connect
+            | Kind::Disconnect
+            | Kind::Tip
+            | Kind::List
+            | Kind::Row
+            | Kind::Payees
+            | Kind::Members
+            | Kind::Quorums => true,
+            Kind::Diff | Kind::Pin | Kind::Page | Kind::Release => false,
         }
     }
 

@@ -4,12 +4,15 @@
 mod answer;
 mod body;
 mod desk;
+mod hashes;
 mod height;
 mod kind;
+mod length;
 mod limits;
 mod list;
+mod members;
 mod payees;
-mod plain;
+mod quorums;
 mod reading;
 mod request;
 mod row;

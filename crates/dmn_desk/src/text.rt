@@ -7,8 +7,9 @@ use crate::answer::{Answer, GrownAnswer, ShortAnswer};
 use crate::body::{
     connected_body, empty_body, framed, hash_body, held_body, number_body, refused_body, tip_body,
 };
+use crate::hashes::feed_hashes;
 use crate::list::feed_list;
-use crate::payees::feed_payees;
+use crate::quorums::feed_quorums;
 use crate::row::put_row;
 use crate::short::Short;
 use dmn_bytes::{Bytes, Draft, Memory};
@@ -92,9 +93,14 @@ impl GrownAnswer {
                 draft.finish(out)
             }
             GrownAnswer::Row(row) => put_row(row, out),
-            GrownAnswer::Payees(hashes) => {
+            GrownAnswer::Payees(hashes) | GrownAnswer::Members(hashes) => {
                 let mut draft = Draft::on(out);
-                feed_payees(hashes.as_slice(), &mut draft);
+                feed_hashes(hashes.as_slice(), &mut draft);
+                draft.finish(out)
+            }
+            GrownAnswer::Quorums(commitments) => {
+                let mut draft = Draft::on(out);
+                feed_quorums(commitments.as_slice(), &mut draft);
                 draft.finish(out)
             }
         }

@@ -13,6 +13,8 @@ KINDS = {CONNECT: "connect", DISCONNECT: "disconnect", TIP: "tip", LIST: "list",
 NO_TRANSACTION = 0xFFFFFFFF
 ENTRY_SIZE = 151
 ROW_SIZE = 293
+# What stands in a commitment behind its bits: a key, a hash and two signatures.
+KEYS_SIZE = 48 + 32 + 96 + 96
 
 # Each status, and the fields of its body with their sizes; a field of 32 bytes is a hash. Those of Ok are by kind.
 STATUSES = {
@@ -133,7 +135,7 @@ class Wanted:
             raise Mistake("no words are known for an Ok to this request")
         text = self.fields(OK_FIELDS[self.kind])
         if self.kind in (LIST, PAGE):
-            entries = sorted((self.entry(line) for line in self.below), key=lambda entry: entry["hash"])
+            entries = sorted((entry for line in self.below for entry in self.entries(line)), key=lambda e: e["hash"])
             texts = b"".join(entry_text(entry) for entry in entries)
             if self.kind == PAGE:
                 return number(len(entries), 2) + texts
@@ -141,6 +143,8 @@ class Wanted:
         return text
 
     def hashes(self):
+        if self.words.peek() == "the":
+            return self.words.members()["members"]
         found = []
         while not self.words.is_done():
             if found:
@@ -156,17 +160,23 @@ class Wanted:
             found.append(commitment_text(self.words.name().values))
         return found
 
-    def entry(self, words):
-        """An entry of a list: that of a registration by its name, 'with' what differs."""
-        tx = words.name()
-        values = tx.values
-        entry = {"hash": tx.id(), "confirmed": bytes(32), "banned": values["service"] == NO_SERVICE,
-                 **{name: values[name] for name in ("service", "operator", "voting")}}
-        if words.takes("with"):
-            while self.change(entry, words) and words.takes("and"):
-                pass
+    def entries(self, words):
+        """Entries of a list: that of a registration by its name, or those from one test registration to another, 'with'
+        what differs."""
+        txs = [words.name()]
+        if words.takes("to"):
+            first, last = int(words.words[words.at - 2]), words.number()
+            txs += [words.names[str(k)] for k in range(first + 1, last + 1)]
+        found = [{"hash": tx.id(), "confirmed": bytes(32), "banned": tx.values["service"] == NO_SERVICE,
+                  **{name: tx.values[name] for name in ("service", "operator", "voting")}} for tx in txs]
+        begin = words.at
+        for entry in found:
+            words.at = begin
+            if words.takes("with"):
+                while self.change(entry, words) and words.takes("and"):
+                    pass
         words.ends()
-        return entry
+        return found
 
     def change(self, told, words):
         """What may differ from the registration in an entry or a row."""
@@ -240,6 +250,8 @@ class Shown:
     def __init__(self, kind, names):
         self.kind = kind
         self.names = {tx.id(): name for name, tx in names.items()}
+        values = {name: getattr(tx, "values", None) or {} for name, tx in names.items()}
+        self.commitments = {commitment_text(told): name for name, told in values.items() if "signers" in told}
 
     def hash(self, text):
         if text in self.names:
@@ -268,6 +280,8 @@ class Shown:
         if status == 0 and self.kind == LIST:
             told.append("root %s, entries: %d" % (rest[:32].hex(), int.from_bytes(rest[32:36], "little")))
             below, rest = self.entries(rest[36:]), b""
+        elif status == 0 and self.kind == QUORUMS:
+            told, rest = self.mined(rest[2:]), b""
         elif status == 0 and self.kind == ROW and len(rest) == ROW_SIZE:
             told, rest = self.row(rest), b""
         elif status == 0 and self.kind == PAGE:
@@ -285,6 +299,23 @@ class Shown:
         if place != NO_TRANSACTION:
             head += " at %d" % place
         return [head] + told, rest
+
+    def mined(self, text):
+        """Commitments by their names, or by types, quorums, and how many signed and are valid."""
+        told = []
+        while text:
+            size, ones = 35, []
+            for _ in range(2):
+                mark = 3 if text[size] == 0xFD else 1
+                count = int.from_bytes(text[size + mark // 2:size + mark], "little")
+                size += mark + (count + 7) // 8
+                ones.append(bin(int.from_bytes(text[size - (count + 7) // 8:size], "little")).count("1"))
+            size += KEYS_SIZE
+            name = self.commitments.get(text[:size])
+            told.append("commitment %s" % name if name else "type %d of block %s with signers: %d, valid: %d" % (
+                text[2], self.hash(text[3:35]), *ones))
+            text = text[size:]
+        return told
 
     def entries(self, text):
         return [self.entry(text[at:at + ENTRY_SIZE]) for at in range(0, len(text), ENTRY_SIZE)]

@@ -1,8 +1,8 @@
 """Blocks in words. What a block's words do not say is right: its roots, the block before it, and its verdicts."""
 
 from model import Working
-from transactions import (Coinbase, Draft, Raw, changed, finish_update, read_commitment, read_ordinary,
-                          read_registration, read_special, read_update)
+from transactions import (Coinbase, Draft, Raw, changed, due_commitments, finish_update, read_commitment,
+                          read_ordinary, read_registrations, read_special, read_update)
 from wire import REVOKE, Tx, block_text, header_text, merkle_root, verdict_text
 from words import Mistake
 
@@ -51,7 +51,7 @@ class Block:
     def item(self, words):
         case = self.case
         if words.takes("register"):
-            self.drafts.append(read_registration(words, case))
+            self.drafts += read_registrations(words, case)
         elif words.takes("update"):
             self.drafts.append(read_update(words, case))
         elif words.takes("revoke"):
@@ -60,6 +60,8 @@ class Block:
             self.drafts.append(read_ordinary(words, case))
         elif words.takes("special"):
             self.drafts.append(read_special(words, case))
+        elif words.takes("duties"):
+            self.drafts += due_commitments(case)
         elif words.takes("null"):
             self.drafts.append(read_commitment(words, case, True))
         elif words.takes("commitment"):

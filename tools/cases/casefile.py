@@ -3,7 +3,7 @@
 from dataclasses import dataclass, field
 
 from answers import Wanted
-from requests import read_request
+from requests import Step, read_request
 from words import Mistake, Words
 
 # The statuses with which the program ends, and their exit codes.
@@ -76,14 +76,17 @@ class Case:
         self.line = line
         self.names = {}
         self.profile = "small"
+        self.first = 0
         self.states = []
         self.height = 0
         self.updates = 0
+        self.answers = {}
         self.runs = []
         self.last = None
 
     def begin(self, profile, state):
         self.profile = profile
+        self.first = state.height + 1
         self.states = [state]
 
     def go_back(self):
@@ -100,6 +103,12 @@ class Case:
                 return state
         return None
 
+    def block_hash(self, height):
+        state = self.state_at(height)
+        if state is None:
+            raise Mistake("there is no block %d" % height)
+        return state.hash
+
     def run(self, line):
         """The run that goes on, or a first one."""
         if not self.runs:
@@ -114,6 +123,7 @@ class Case:
         if word == "run":
             self.runs.append(Run(line.number, rest.split()))
             self.last = None
+            self.answers = {}
         elif word == "fails":
             self.run(line.number).fails += [int(call) for call in rest.split()]
         elif word == "ends":
@@ -127,23 +137,39 @@ class Case:
             self.ask(line)
 
     def ask(self, line):
-        words = Words(line.whole(), self.names)
-        request = read_request(words, self)
-        self.last = request
-        self.run(line.number).asks.append(Ask(line.number, line.whole(), request.kind, request.text))
+        request = self.last = read_request(Words(line.whole(), self), self)
+        steps = request.steps or [Step(line.whole(), request.text)]
+        self.run(line.number).asks += [Ask(line.number, step.words, request.kind, step.text) for step in steps]
 
     def answer(self, line):
         if self.last is None or self.runs[-1].asks[-1].answer is not None:
             raise Mistake("an answer stands behind its request")
-        is_bytes = line.text.startswith("= bytes")
-        words = Words(line.whole() if is_bytes else line.text, self.names)
-        words.wants("=")
-        below = [] if is_bytes else [Words(text, self.names) for _, text in line.below]
-        wanted = Wanted(words, below, self.last.kind, self.last.block)
-        ask = self.runs[-1].asks[-1]
-        ask.answer_line, ask.answer = line.number, wanted.frame()
-        if ask.answer[:1] == b"\0":
+        wanted = self.wanted(line)
+        for ask, answer in zip(self.runs[-1].asks[-len(wanted):], wanted):
+            ask.answer_line, ask.answer = line.number, answer
+            self.answers[ask.text] = answer
+        if answer[:1] == b"\0":
             self.last.accepted()
+
+    def wanted(self, line):
+        """The answers to what was asked last."""
+        is_bytes = line.text.startswith("= bytes")
+        words = Words(line.whole() if is_bytes else line.text, self)
+        words.wants("=")
+        if self.last.steps:
+            words.wants("each", "Ok")
+            words.ends()
+            return [step.answer for step in self.last.steps]
+        if words.takes("as", "before"):
+            words.ends()
+            return [self.answered_before(self.last.text)]
+        below = [] if is_bytes else [Words(text, self) for _, text in line.below]
+        return [Wanted(words, below, self.last.kind, self.last.block).frame()]
+
+    def answered_before(self, text):
+        if text not in self.answers:
+            raise Mistake("this was not asked before")
+        return self.answers[text]
 
     def finish(self, needs_answers):
         for run in self.runs:

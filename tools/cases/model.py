@@ -9,10 +9,28 @@ from wire import (COLLATERAL, COMMITMENT, NO_SERVICE, REGISTER, REGISTRAR, REVOK
 
 CONFIRM = 16
 NO_PAY = (0, bytes(20))
-# Of each type of quorums: size, minimum, interval.
-QUORUMS = {"small": {100: (4, 3, 12)}, "main": {1: (50, 40, 24), 2: (400, 300, 288), 3: (400, 350, 576)}}
 PORTS = {"small": 19_999, "main": 9_999}
 PROFILES = {"small": 1, "main": 2}
+
+
+@dataclass
+class QuorumType:
+    """How many members a quorum has, how often one is drawn, and where its commitment may be mined."""
+    size: int
+    interval: int
+    opens: int
+    closes: int
+
+    def base(self, height):
+        """The last height at or below this one from whose list members are drawn."""
+        return height - height % self.interval
+
+
+# Each profile's types, ascending.
+QUORUMS = {"small": {100: QuorumType(4, 12, 4, 10)},
+           "main": {1: QuorumType(50, 24, 10, 18), 2: QuorumType(400, 288, 20, 28), 3: QuorumType(400, 576, 20, 48)}}
+# That of a commitment whose type the profile does not have.
+OTHER_TYPE = QuorumType(4, 12, 4, 10)
 
 
 @dataclass
@@ -42,14 +60,25 @@ class Row:
 
 @dataclass
 class State:
-    """What is there behind a block: rows by hash, and what each output of 1,000 DASH pays to."""
+    """What is there behind a block: rows by hash, what each output of 1,000 DASH pays to, and of which types and bases
+    there are commitments that aren't null."""
     height: int
     hash: bytes
     rows: dict = field(default_factory=dict)
     outputs: dict = field(default_factory=dict)
+    mined: frozenset = frozenset()
 
     def root(self):
         return list_root([row.entry() for row in self.rows.values()])
+
+
+def duties(profile, first, before, height):
+    """The types of which a block at this height is to have a commitment, by the state before it."""
+    for kind, quorum in QUORUMS[profile].items():
+        base = quorum.base(height)
+        is_open = base >= first and quorum.opens <= height % quorum.interval <= quorum.closes
+        if is_open and (kind, base) not in before.mined:
+            yield kind
 
 
 def modifier(kind, quorum):
@@ -75,6 +104,7 @@ class Working:
         self.height = before.height + 1
         self.rows = {row.hash: self.aged(row) for row in before.rows.values()}
         self.outputs = dict(before.outputs)
+        self.mined = before.mined
 
     def aged(self, row):
         """A row as it is confirmed, and as its penalty falls."""
@@ -121,8 +151,9 @@ class Working:
             row = replace(self.clear(row), reason=p["reason"])
         self.rows[row.hash] = row
 
-    def punish(self, c):
-        """The members that did not take part, by the commitment's own list of members."""
+    def commit(self, c):
+        """Keeps a commitment that isn't null, and punishes the members that did not take part, by its own list of them."""
+        self.mined = self.mined | {(c["type"], c["base"])}
         most = max(100, len(self.rows))
         for place, member in enumerate(c["members"]):
             row = self.rows.get(member)
@@ -142,7 +173,7 @@ class Working:
         elif tx.kind in (SERVICE, REGISTRAR, REVOKE):
             self.update(tx.kind, values)
         elif tx.kind == COMMITMENT and not values["null"]:
-            self.punish(values)
+            self.commit(values)
 
     # ---- spends
 
@@ -162,4 +193,4 @@ class Working:
         return list_root([row.entry() for row in self.rows.values()])
 
     def state(self, block_hash):
-        return State(self.height, block_hash, self.rows, self.outputs)
+        return State(self.height, block_hash, self.rows, self.outputs, self.mined)

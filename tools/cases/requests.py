@@ -1,20 +1,32 @@
 """Requests in words."""
 
+from dataclasses import dataclass
+
 from answers import CONNECT, DIFF, DISCONNECT, LIST, MEMBERS, PAGE, PAYEES, PIN, QUORUMS, RELEASE, ROW, START, TIP
 from blocks import Block
 from model import PROFILES, State
 from wire import frame, number, pay_of, pay_text, point_text
-from words import Mistake, bytes_of
+from words import Mistake, Words, bytes_of
+
+
+@dataclass
+class Step:
+    """One request of several: its words, its bytes on the line, and the answer that is wanted."""
+    words: str
+    text: bytes
+    answer: bytes = b""
 
 
 class Request:
-    """A request: its kind, its bytes on the line, and what follows for the case where it is answered Ok."""
+    """A request: its kind, its bytes on the line, and what follows for the case where it is answered Ok. Where its words
+    stand for several requests, each of which is to be answered Ok, these are its steps."""
 
-    def __init__(self, kind, text, block=None, accepted=None):
+    def __init__(self, kind, text, block=None, accepted=None, steps=()):
         self.kind = kind
         self.text = text
         self.block = block
         self.accepted = accepted or (lambda: None)
+        self.steps = list(steps)
 
 
 def start(words, case):
@@ -68,6 +80,37 @@ READERS = {
 }
 
 
+def moves_to(state, words, kind, body):
+    """A request that makes this state the tip, and is answered so."""
+    return Step(words, frame(kind, body), frame(0, number(state.height, 4) + state.hash))
+
+
+def blocks(words, case):
+    """'blocks FIRST to LAST': of each height one, of a coinbase and the null commitments that are due."""
+    first = words.number()
+    words.wants("to")
+    last = words.number()
+    is_long = words.takes("with", "long", "hashes")
+    for height in range(first, last + 1):
+        said = "%d%s: duties" % (height, " with hash %s" % (number(height, 4) * 8).hex() if is_long else "")
+        drafted = Block(Words(said, case), case)
+        body = drafted.finish()
+        case.states.append(drafted.after)
+        yield moves_to(drafted.after, "block " + said, CONNECT, body)
+
+
+def disconnects(words, case):
+    """'disconnects to HEIGHT': the last block is taken back until this height is the tip."""
+    words.wants("to")
+    height = words.number()
+    while case.tip().height > height:
+        gone = case.states.pop()
+        yield moves_to(case.tip(), "disconnect block %d" % gone.height, DISCONNECT, gone.hash)
+
+
+REPEATED = {"blocks": (CONNECT, blocks), "disconnects": (DISCONNECT, disconnects)}
+
+
 def but(words, body):
     """'cut to N bytes', 'followed by HEX' or 'byte N is HEX': a body out of its form."""
     if words.takes("cut", "to"):
@@ -88,6 +131,13 @@ def read_request(words, case):
         text = words.hex()
         words.ends()
         return Request(None, text)
+    if word in REPEATED:
+        kind, read = REPEATED[word]
+        request = Request(kind, b"", steps=read(words, case))
+        if not request.steps:
+            raise Mistake("there is no block between these heights")
+        words.ends()
+        return request
     if word not in READERS:
         raise Mistake("'%s' is no request" % word)
     kind, body, drafted, accepted = READERS[word](words, case)

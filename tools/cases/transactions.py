@@ -2,7 +2,7 @@
 
 from dataclasses import dataclass
 
-from model import NO_PAY, PORTS, QUORUMS, members
+from model import NO_PAY, OTHER_TYPE, PORTS, QUORUMS, duties, members
 from wire import (COINBASE, COLLATERAL, COMMITMENT, NO_INDEX, NO_SERVICE, REGISTER, REGISTRAR, REVOKE, SERVICE,
                   ZERO_HASH, Input, Output, Tx, coinbase_payload, commitment_text, dsha, key_script, mapped, number,
                   registrar_update_text, registration_text, revocation_text, service_update_text)
@@ -81,6 +81,11 @@ class Draft:
         elif words.takes("payload", "followed", "by"):
             more = bytes_of(words.next())
             self.edits.append(lambda text: text + more)
+        elif words.takes("payload", "byte"):
+            place = words.number()
+            words.wants("is")
+            byte = bytes_of(words.next())
+            self.edits.append(lambda text: text[:place] + byte + text[place + 1:])
         elif words.takes("payload"):
             whole = bytes_of(words.next())
             self.edits.append(lambda text: whole)
@@ -126,17 +131,22 @@ class Draft:
             self.tx.payload = edit(self.tx.payload)
 
 
+def key_of(k, letter, size):
+    """A key of the test registration k. The first 31 have one byte throughout, the others two in turn."""
+    return bytes([letter + k]) * size if k <= 31 else bytes([k, letter]) * (size // 2)
+
+
 class Registration(Draft):
     """The test registration k: every key and address of it has k in it."""
     kind = REGISTER
 
     def __init__(self, k, profile):
-        tx = Tx(3, REGISTER, [Input((bytes([k]) * 32, 0))], [Output(COLLATERAL, key_script(bytes([0xE0 + k]) * 20))])
+        tx = Tx(3, REGISTER, [Input((bytes([k]) * 32, 0))], [Output(COLLATERAL, key_script(key_of(k, 0xE0, 20)))])
         super().__init__(tx, {
             "version": 1, "type": 0, "mode": 0, "collateral": (ZERO_HASH, 0),
-            "service": (mapped(10, 0, 0, k), PORTS[profile]), "owner": bytes([k]) * 20,
-            "operator": bytes([0x40 + k]) * 48, "voting": bytes([0x80 + k]) * 20, "reward": 0,
-            "payout": key_script(bytes([0xC0 + k]) * 20), "signature": b""})
+            "service": (mapped(10, 0, 0, k), PORTS[profile]), "owner": key_of(k, 0, 20),
+            "operator": key_of(k, 0x40, 48), "voting": key_of(k, 0x80, 20), "reward": 0,
+            "payout": key_script(key_of(k, 0xC0, 20)), "signature": b""})
 
     def stands_on(self, point):
         """On an output that was there before, signed by who may spend it."""
@@ -184,20 +194,25 @@ class Update(Draft):
         return (OWNER_KIND, dsha(row.owner)) if self.kind == REGISTRAR else (OPERATOR_KIND, dsha(row.operator))
 
 
+# The fields of a commitment behind its bits, with their sizes, and the byte of one that isn't null.
+COMMITMENT_KEYS = {"key": (48, 0x61), "vvec": (32, 0x62), "signature": (96, 0x63), "members signature": (96, 0x64)}
+
+
 class Commitment(Draft):
-    """A quorum's commitment; without members it is null."""
+    """A quorum's commitment, null or by all members of the quorum whose base is this state."""
     kind = COMMITMENT
 
-    def __init__(self, kind, height, quorum, size, member_hashes=(), keys=()):
+    def __init__(self, kind, quorum, height, state, is_null):
         self.payload_height = height
         self.payload_version = 1
-        self.keys = keys
-        given = [n < len(member_hashes) for n in range(size)]
-        filler = (lambda byte, count: bytes([byte]) * count) if member_hashes else (lambda byte, count: bytes(count))
+        base = quorum.base(height)
+        chosen = members(state, kind, quorum.size) if state else []
+        keys = b"".join(member + state.rows[member].operator for member in chosen)
+        given = [not is_null and place < len(chosen) for place in range(quorum.size)]
         super().__init__(Tx(3, COMMITMENT), {
-            "version": 1, "type": kind, "quorum": quorum, "signers": list(given), "valid": list(given),
-            "key": filler(0x61, 48), "vvec": filler(0x62, 32), "signature": filler(0x63, 96),
-            "members signature": filler(0x64, 96), "null": not member_hashes, "members": list(member_hashes)})
+            "version": 1, "type": kind, "quorum": state.hash if state else bytes([base % 256]) * 32,
+            "signers": list(given), "valid": list(given), "base": base, "members": chosen, "digest": dsha(keys),
+            **{name: bytes([0 if is_null else byte]) * size for name, (size, byte) in COMMITMENT_KEYS.items()}})
 
     def change(self, words):
         values = self.values
@@ -211,27 +226,49 @@ class Commitment(Draft):
             values["type"] = words.number()
         elif words.takes("quorum"):
             values["quorum"] = words.hash()
-        elif words.takes("size"):
-            size = words.number()
-            for name in ("signers", "valid"):
-                values[name] = (values[name] + [False] * size)[:size]
         elif words.takes("without"):
             values["valid"][values["members"].index(words.id())] = False
         elif words.takes("unsigned", "by"):
             values["signers"][values["members"].index(words.id())] = False
-        elif words.takes("key"):
-            values["key"] = words.sized(48)
         else:
-            return self.change_tx(words)
+            return self.change_keys(words) or self.change_bits(words) or self.change_tx(words)
+        return True
+
+    def change_keys(self, words):
+        for name, (size, _) in COMMITMENT_KEYS.items():
+            if words.takes(*name.split()):
+                self.values[name] = words.sized(size)
+                return True
+        return False
+
+    def change_bits(self, words):
+        """'signer bits N' or 'valid bits N' for their count, 'signer bit N' for one that is set, and 'no signer bit N' for
+        one that is not."""
+        is_clear = words.peek() == "no"
+        name = {"signer": "signers", "valid": "valid"}.get(words.peek(1 if is_clear else 0))
+        if name is None:
+            return False
+        words.takes("no")
+        words.next()
+        flags = self.values[name]
+        if words.takes("bits"):
+            count = words.number()
+            self.values[name] = (flags + [False] * count)[:count]
+        else:
+            words.wants("bit")
+            flags[words.number()] = not is_clear
         return True
 
     def finish(self):
+        values = self.values
+        values["null"] = not any(values["signers"] + values["valid"]) and not any(
+            any(values[name]) for name in COMMITMENT_KEYS)
         self.tx.payload = (number(self.payload_version, 2) + number(self.payload_height, 4)
-                           + commitment_text(self.values))
+                           + commitment_text(values))
         self.edit()
 
     def due_verdict(self, working):
-        return None if self.values["null"] else (MEMBERS_KIND, dsha(b"".join(self.keys)))
+        return None if self.values["null"] else (MEMBERS_KIND, self.values["digest"])
 
 
 class Special(Draft):
@@ -286,15 +323,19 @@ def changed(draft, words):
 
 # ---- items of a block
 
-def read_registration(words, case):
-    k = words.number()
-    if not 1 <= k <= 31:
-        raise Mistake("test registrations are numbered from 1 to 31")
-    draft = Registration(k, case.profile)
-    name = words.next() if words.takes("as") else str(k)
+def read_registrations(words, case):
+    """'K' or 'K to L'; of one alone more may be said."""
+    first = words.number()
+    last = words.number() if words.takes("to") else first
+    if not 1 <= first <= last <= 255:
+        raise Mistake("test registrations are numbered from 1 to 255")
+    if first < last:
+        return [named(Registration(k, case.profile), str(k), case) for k in range(first, last + 1)]
+    draft = Registration(first, case.profile)
+    name = words.next() if words.takes("as") else str(first)
     if words.takes("on"):
         draft.stands_on(words.point())
-    return named(changed(draft, words), name, case)
+    return [named(changed(draft, words), name, case)]
 
 
 def named(draft, name, case):
@@ -376,15 +417,20 @@ def read_special(words, _):
     return draft
 
 
+def commitment_of(kind, case, is_null):
+    """A commitment of this type for the base of the block's height."""
+    quorum = QUORUMS[case.profile].get(kind, OTHER_TYPE)
+    return Commitment(kind, quorum, case.height, case.state_at(quorum.base(case.height)), is_null)
+
+
 def read_commitment(words, case, is_null):
-    """A commitment of the profile's one type or another, for the base of the block's height."""
-    kinds = QUORUMS[case.profile]
-    kind = words.number() if words.peek().isdigit() else min(kinds)
-    size, _, interval = kinds.get(kind, (4, 3, 12))
-    base = case.height - case.height % interval
+    """'null' and 'commitment', of the profile's least type or of another one that is told."""
+    kind = words.number() if words.peek().isdigit() else min(QUORUMS[case.profile])
     name = words.next() if words.takes("as") else None
-    state = case.state_at(base)
-    found = [] if is_null or state is None else members(state, kind, size)
-    keys = [member + state.rows[member].operator for member in found]
-    draft = Commitment(kind, case.height, state.hash if state else bytes([base % 256]) * 32, size, found, keys)
-    return named(changed(draft, words), name, case)
+    return named(changed(commitment_of(kind, case, is_null), words), name, case)
+
+
+def due_commitments(case):
+    """The null commitments that the duty asks for."""
+    kinds = duties(case.profile, case.first, case.tip(), case.height)
+    return [named(commitment_of(kind, case, True), None, case) for kind in kinds]

@@ -5,6 +5,8 @@ import re
 from wire import dsha, key_script, mapped, script_script
 
 STOPS = (",", ":")
+# Words that may stand before a transaction's name.
+TITLES = ("register", "commitment")
 
 
 class Mistake(Exception):
@@ -46,12 +48,14 @@ def sized(word, size):
 
 
 class Words:
-    """The words of one line, read from the left. Names are those of the case's transactions."""
+    """The words of one line, read from the left. Names are those of the case's transactions; its states tell the hashes of
+    its blocks."""
 
-    def __init__(self, text, names):
+    def __init__(self, text, case):
         self.words = split(text)
         self.at = 0
-        self.names = names
+        self.names = case.names
+        self.case = case
 
     def is_done(self):
         return self.at == len(self.words)
@@ -101,15 +105,15 @@ class Words:
         return text
 
     def name(self):
-        """A transaction of the case by its name; 'register' may stand before it."""
-        self.takes("register")
+        """A transaction of the case by its name; 'register' or 'commitment' may stand before it."""
+        self.at += self.peek() in TITLES
         word = self.next()
         if word not in self.names:
             raise Mistake("no transaction has the name '%s'" % word)
         return self.names[word]
 
     def is_named(self):
-        return self.peek(1 if self.peek() == "register" else 0) in self.names
+        return self.peek(1 if self.peek() in TITLES else 0) in self.names
 
     def id(self):
         """The id of a transaction by its name, or a hash."""
@@ -122,10 +126,18 @@ class Words:
             raise Mistake("'%s' is neither a transaction of the case nor a hash" % word) from None
 
     def hash(self):
-        """'of NAME' for a transaction's id, 'digest of HEX' for that of a key, or 32 bytes."""
+        """'of NAME' for a transaction's id, 'digest of HEX' for that of a key, 'digest of the members of NAME' for that of
+        a commitment's members, 'block HEIGHT' for the hash of a block of the branch, or 32 bytes."""
         if self.takes("digest", "of"):
-            return dsha(bytes_of(self.next()))
+            return self.members()["digest"] if self.peek() == "the" else dsha(bytes_of(self.next()))
+        if self.takes("block"):
+            return self.case.block_hash(self.number())
         return self.id() if self.takes("of") else self.sized(32)
+
+    def members(self):
+        """'the members of NAME': a commitment, which has its members' ids and the digest of their keys."""
+        self.wants("the", "members", "of")
+        return self.name().values
 
     def point(self):
         """'output INDEX of NAME', or 'HASH:INDEX'."""

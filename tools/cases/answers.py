@@ -182,11 +182,13 @@ class Wanted:
         """What may differ from the registration in an entry or a row."""
         if "paid" in told and self.change_row(told, words):
             return True
-        for name, size in (("confirmed", 32), ("owner", 20), ("operator", 48), ("voting", 20)):
+        for name, size in (("owner", 20), ("operator", 48), ("voting", 20)):
             if name in told and words.takes(name):
                 told[name] = words.sized(size)
                 return True
-        if words.takes("no", "operator"):
+        if words.takes("confirmed"):
+            told["confirmed"] = words.hash()
+        elif words.takes("no", "operator"):
             told["operator"] = bytes(48)
         elif words.takes("no", "service"):
             told["service"] = NO_SERVICE

@@ -2,7 +2,7 @@
 
 from dataclasses import dataclass, field
 
-from answers import Wanted
+from answers import LIST, PAGE, Wanted
 from requests import Step, read_request
 from words import Mistake, Words
 
@@ -104,10 +104,14 @@ class Case:
         return None
 
     def block_hash(self, height):
-        state = self.state_at(height)
-        if state is None:
+        """The hash of a block of the branch, or of the one that the last request hands in."""
+        found = self.state_at(height)
+        asked = self.last.block if self.last else None
+        if found is None and asked is not None and asked.height == height:
+            found = asked
+        if found is None:
             raise Mistake("there is no block %d" % height)
-        return state.hash
+        return found.hash
 
     def run(self, line):
         """The run that goes on, or a first one."""
@@ -152,9 +156,9 @@ class Case:
             self.last.accepted()
 
     def wanted(self, line):
-        """The answers to what was asked last."""
-        is_bytes = line.text.startswith("= bytes")
-        words = Words(line.whole() if is_bytes else line.text, self)
+        """The answers to what was asked last. Below that to a list stand its entries."""
+        has_entries = self.last.kind in (LIST, PAGE) and not line.text.startswith("= bytes")
+        words = Words(line.text if has_entries else line.whole(), self)
         words.wants("=")
         if self.last.steps:
             words.wants("each", "Ok")
@@ -163,7 +167,7 @@ class Case:
         if words.takes("as", "before"):
             words.ends()
             return [self.answered_before(self.last.text)]
-        below = [] if is_bytes else [Words(text, self) for _, text in line.below]
+        below = [Words(text, self) for _, text in line.below] if has_entries else []
         return [Wanted(words, below, self.last.kind, self.last.block).frame()]
 
     def answered_before(self, text):

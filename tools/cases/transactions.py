@@ -242,8 +242,8 @@ class Commitment(Draft):
         return False
 
     def change_bits(self, words):
-        """'signer bits N' or 'valid bits N' for their count, 'signer bit N' for one that is set, and 'no signer bit N' for
-        one that is not."""
+        """'signer bits N' or 'valid bits N' for their count, 'signer bits N to M' for those that alone are set, 'signer bit N'
+        for one that is set, and 'no signer bit N' for one that is not."""
         is_clear = words.peek() == "no"
         name = {"signer": "signers", "valid": "valid"}.get(words.peek(1 if is_clear else 0))
         if name is None:
@@ -251,12 +251,16 @@ class Commitment(Draft):
         words.takes("no")
         words.next()
         flags = self.values[name]
-        if words.takes("bits"):
-            count = words.number()
-            self.values[name] = (flags + [False] * count)[:count]
-        else:
+        if not words.takes("bits"):
             words.wants("bit")
             flags[words.number()] = not is_clear
+            return True
+        first = words.number()
+        if words.takes("to"):
+            last = words.number()
+            self.values[name] = [first <= place <= last for place in range(len(flags))]
+        else:
+            self.values[name] = (flags + [False] * first)[:first]
         return True
 
     def finish(self):

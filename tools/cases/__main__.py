@@ -55,11 +55,12 @@ def all_cases():
 # ---- composed files
 
 def hex_words(text):
-    """Hex digits; a byte that stands eight times and more is written once, with '*' and how often."""
+    """Hex digits; a piece that stands eight times and more is written once, with '*' and how often."""
     words, at = [], 0
-    for run in re.finditer(rb"(.)\1{7,}", text, re.DOTALL):
+    for run in re.finditer(rb"(.{1,64}?)\1{7,}", text, re.DOTALL):
+        piece = run.group(1)
         words.append(text[at:run.start()].hex())
-        words.append("%s*%d" % (run.group(1).hex(), run.end() - run.start()))
+        words.append("%s*%d" % (piece.hex(), (run.end() - run.start()) // len(piece)))
         at = run.end()
     words.append(text[at:].hex())
     return " ".join(word for word in words if word)

@@ -1,7 +1,8 @@
 #!/usr/bin/env bash
 # Compares the built program with an independent model on random streams, where such a model lies beside the repository:
-#   tools/check_random.sh FOLDER STAGE COUNT   FOLDER has the model's make_fuzz.py and check_vectors.py, STAGE is its name
-#                                              for what is built so far, COUNT says how many streams
+#   tools/check_random.sh FOLDER STAGE COUNT   FOLDER has the model's make_fuzz.py, STAGE is its name for what is built so
+#                                              far, COUNT says how many streams
+# What the program does not build yet is put right: see check_streams.py, which compares streams that are there already.
 # Without the model it says so and does nothing. Build the program first (./quickstart).
 set -eu
 folder=${1:-}
@@ -13,4 +14,4 @@ program=$(dirname "$0")/../crates/dmnd/out/dmnd
 work=$(mktemp -d)
 trap 'rm -rf "$work"' EXIT
 FUZZ_OUT="$work" python3 "$folder/make_fuzz.py" "$2" 1 "$3" > /dev/null
-python3 "$folder/check_vectors.py" "$program" "$work"/*.txt
+python3 "$(dirname "$0")/check_streams.py" "$program" "$work"/*.txt

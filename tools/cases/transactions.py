@@ -131,9 +131,12 @@ class Draft:
             self.tx.payload = edit(self.tx.payload)
 
 
+MOST_REGISTRATIONS = 999
+
+
 def key_of(k, letter, size):
-    """A key of the test registration k. The first 31 have one byte throughout, the others two in turn."""
-    return bytes([letter + k]) * size if k <= 31 else bytes([k, letter]) * (size // 2)
+    """A key of the test registration k. The first 31 have one byte throughout, the others four in turn."""
+    return bytes([letter + k]) * size if k <= 31 else (number(k, 2) + bytes([letter, 0])) * (size // 4)
 
 
 class Registration(Draft):
@@ -141,10 +144,10 @@ class Registration(Draft):
     kind = REGISTER
 
     def __init__(self, k, profile):
-        tx = Tx(3, REGISTER, [Input((bytes([k]) * 32, 0))], [Output(COLLATERAL, key_script(key_of(k, 0xE0, 20)))])
+        tx = Tx(3, REGISTER, [Input((key_of(k, 0, 32), 0))], [Output(COLLATERAL, key_script(key_of(k, 0xE0, 20)))])
         super().__init__(tx, {
             "version": 1, "type": 0, "mode": 0, "collateral": (ZERO_HASH, 0),
-            "service": (mapped(10, 0, 0, k), PORTS[profile]), "owner": key_of(k, 0, 20),
+            "service": (mapped(10, 0, k // 256, k % 256), PORTS[profile]), "owner": key_of(k, 0, 20),
             "operator": key_of(k, 0x40, 48), "voting": key_of(k, 0x80, 20), "reward": 0,
             "payout": key_script(key_of(k, 0xC0, 20)), "signature": b""})
 
@@ -227,12 +230,19 @@ class Commitment(Draft):
         elif words.takes("quorum"):
             values["quorum"] = words.hash()
         elif words.takes("without"):
-            values["valid"][values["members"].index(words.id())] = False
+            values["valid"][self.place(words)] = False
         elif words.takes("unsigned", "by"):
-            values["signers"][values["members"].index(words.id())] = False
+            values["signers"][self.place(words)] = False
         else:
             return self.change_keys(words) or self.change_bits(words) or self.change_tx(words)
         return True
+
+    def place(self, words):
+        """The place of a member, which the words name."""
+        name, member = words.peek(), words.id()
+        if member not in self.values["members"]:
+            raise Mistake("'%s' is no member" % name)
+        return self.values["members"].index(member)
 
     def change_keys(self, words):
         for name, (size, _) in COMMITMENT_KEYS.items():
@@ -331,8 +341,8 @@ def read_registrations(words, case):
     """'K' or 'K to L'; of one alone more may be said."""
     first = words.number()
     last = words.number() if words.takes("to") else first
-    if not 1 <= first <= last <= 255:
-        raise Mistake("test registrations are numbered from 1 to 255")
+    if not 1 <= first <= last <= MOST_REGISTRATIONS:
+        raise Mistake("test registrations are numbered from 1 to %d" % MOST_REGISTRATIONS)
     if first < last:
         return [named(Registration(k, case.profile), str(k), case) for k in range(first, last + 1)]
     draft = Registration(first, case.profile)

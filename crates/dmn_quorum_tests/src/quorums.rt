@@ -1,12 +1,13 @@
-//! Scores, members, duty, mined commitments and the rules on one, as another program computes them.
+//! Scores, members, mined commitments and the duty to mine one, as another program computes them. The rules on a commitment
+//! are cases.
 
 use dmn_bytes::{Bytes, Hash256, Memory, OutPoint, Pay, Service};
 use dmn_payloads::{Bits, Commitment};
 use dmn_quorums::{
-    Mined, QuorumCase, base_of, bit_at, duty, in_window, judge_commitment, members, members_key,
-    missing, modifier, score,
+    Candidates, Forming, Mined, bit_at, case_of, judge_commitment, members, members_key, missing,
+    modifier, score,
 };
-use dmn_rows::{MnRow, Profile, QuorumParams, RowList, Rule, Verdict};
+use dmn_rows::{MnRow, QuorumParams, RowList, Rule, Verdict};
 use std::alloc::Global;
 use std::test::Fail;
 
@@ -97,12 +98,18 @@ fn members_by_their_scores(rt: HostRuntime) -> Result<(), Fail> {
     let four = members(rt.alloc(), &list, 4, &by)?;
     assert_eq!(rt; four.as_slice(), order.as_slice());
     assert_eq!(rt; members_key(&list, &four), KEY);
-    let fewer = members(rt.alloc(), &list, 5, &by)?;
-    assert_eq!(rt; fewer.as_slice(), order.as_slice());
+    let mut candidates = Candidates::new(rt.alloc());
+    for row in list.rows() {
+        candidates.add(row, &by)?;
+    }
+    assert_eq!(rt;
+        candidates.members(rt.alloc(), 5)?.as_slice(),
+        order.as_slice()
+    );
     Ok(())
 }
 
-// The types of the small profile and of the main one.
+// The type of the small profile.
 const SMALL: QuorumParams = QuorumParams {
     kind: 100,
     size: 4,
@@ -113,279 +120,70 @@ const SMALL: QuorumParams = QuorumParams {
     active: 2,
 };
 
-const FIRST_MAIN: QuorumParams = QuorumParams {
-    kind: 1,
-    size: 50,
-    minimum: 40,
-    interval: 24,
-    from: 10,
-    to: 18,
-    active: 24,
-};
-
-const SECOND_MAIN: QuorumParams = QuorumParams {
-    kind: 2,
-    size: 400,
-    minimum: 300,
-    interval: 288,
-    from: 20,
-    to: 28,
-    active: 4,
-};
-
-const THIRD_MAIN: QuorumParams = QuorumParams {
-    kind: 3,
-    size: 400,
-    minimum: 350,
-    interval: 576,
-    from: 20,
-    to: 48,
-    active: 4,
-};
-
-#[test]
-fn duty_at_both_ends_of_each_window(rt: HostRuntime) {
-    // A base, the heights before and at the window's begin, and those at and behind its end.
-    for (params, base, before, first, last, behind) in [
-        (SMALL, 12, 15, 16, 22, 23),
-        (FIRST_MAIN, 600, 609, 610, 618, 619),
-        (SECOND_MAIN, 576, 595, 596, 604, 605),
-        (THIRD_MAIN, 1_152, 1_171, 1_172, 1_200, 1_201),
-    ] {
-        assert!(rt; params.interval > 0);
-        for (height, due) in [
-            (before, false),
-            (first, true),
-            (last, true),
-            (behind, false),
-        ] {
-            assert_eq!(rt; duty(&params, base, height, false), due, "at {height}");
-            assert!(rt;
-                !duty(&params, base, height, true) && !duty(&params, before, height, false)
-            );
-        }
-        assert_eq!(rt; base_of(&params, behind), base);
-    }
-}
-
+// The hash of the base block.
 const BASE: Hash256 = Hash256([24; 32]);
 
-// What is asked of a commitment.
-#[derive(Clone, Copy)]
-struct Asked {
-    version: u16,
-    known: bool,
-    payload_height: u32,
-    in_window: bool,
-    base: u8,
-    already: bool,
-    done: bool,
-    members: u32,
-    seats: u64,
-    signers: u8,
-    valid: u8,
-    key: u8,
-    verdict: Option<Verdict>,
-}
-
-const YES: Verdict = Verdict {
-    tx: 1,
-    kind: 4,
-    key: KEY,
-    valid: 1,
-};
-
-// All four members have signed, and the first one isn't valid.
-const GOOD: Asked = Asked {
-    version: 1,
-    known: true,
-    payload_height: 30,
-    in_window: true,
-    base: 24,
-    already: false,
-    done: false,
-    members: 4,
-    seats: 4,
-    signers: 15,
-    valid: 14,
-    key: 9,
-    verdict: Some(YES),
-};
-
-const NULL: Asked = Asked {
-    signers: 0,
-    valid: 0,
-    key: 0,
-    verdict: None,
-    ..GOOD
-};
-
-fn set(alloc: Global, count: u64, bits: u8) -> Result<Bits, Memory> {
+fn four_bits(alloc: Global, bits: u8) -> Result<Bits, Memory> {
     Ok(Bits {
-        count,
+        count: 4,
         bytes: Bytes::from_slice(alloc, &[bits])?,
     })
 }
 
-fn commitment(alloc: Global, asked: &Asked) -> Result<Commitment, Memory> {
+// All four members have signed, and the first one isn't valid.
+fn commitment(alloc: Global, key: u8) -> Result<Commitment, Memory> {
     Ok(Commitment {
-        version: asked.version,
+        version: 1,
         kind: 100,
-        quorum: Hash256([asked.base; 32]),
-        signers: set(alloc, asked.seats, asked.signers)?,
-        valid: set(alloc, asked.seats, asked.valid)?,
-        key: [asked.key; 48],
+        quorum: BASE,
+        signers: four_bits(alloc, 15)?,
+        valid: four_bits(alloc, 14)?,
+        key: [key; 48],
         vvec: Hash256([0; 32]),
         quorum_sig: [0; 96],
         members_sig: [0; 96],
     })
 }
 
-fn judged(alloc: Global, asked: &Asked) -> Result<Result<bool, Rule>, Memory> {
-    let case = QuorumCase {
-        params: if asked.known { Some(SMALL) } else { None },
-        payload_height: asked.payload_height,
-        base_hash: BASE,
-        in_window: asked.in_window,
-        already: asked.already,
-        done: asked.done,
-        members: asked.members,
-        digest: KEY,
-    };
-    let commitment = commitment(alloc, asked)?;
-    Ok(judge_commitment(&case, 30, &commitment, asked.verdict.as_ref()))
-}
-
-// What is asked, and what is told.
-fn line(n: u8) -> (Asked, Result<bool, Rule>) {
-    match n {
-        0 => (GOOD, Ok(true)),
-        1 => (NULL, Ok(false)),
-        2 => (
-            Asked {
-                version: 2,
-                known: false,
-                ..GOOD
-            },
-            Err(Rule::QuorumVersion { found: 2 }),
-        ),
-        3 => (
-            Asked {
-                known: false,
-                payload_height: 31,
-                ..GOOD
-            },
-            Err(Rule::QuorumType { found: 100 }),
-        ),
-        4 => (
-            Asked {
-                payload_height: 31,
-                in_window: false,
-                ..GOOD
-            },
-            Err(Rule::QuorumHeight { found: 31 }),
-        ),
-        5 => (
-            Asked {
-                in_window: false,
-                ..NULL
-            },
-            Err(Rule::QuorumWindow),
-        ),
-        6 => (
-            Asked { base: 12, ..NULL },
-            Err(Rule::QuorumBase { base: BASE }),
-        ),
-        7 => (
-            Asked {
-                already: true,
-                done: true,
-                ..NULL
-            },
-            Err(Rule::QuorumSecond),
-        ),
-        8 => (Asked { done: true, ..NULL }, Err(Rule::QuorumDone)),
-        9 => (Asked { seats: 3, ..NULL }, Err(Rule::QuorumBits)),
-        10 => (
-            Asked {
-                members: 3,
-                verdict: None,
-                ..GOOD
-            },
-            Err(Rule::QuorumBits),
-        ),
-        11 => (Asked { signers: 3, ..GOOD }, Err(Rule::QuorumFew)),
-        12 => (Asked { valid: 12, ..GOOD }, Err(Rule::QuorumFew)),
-        13 => (Asked { key: 1, ..NULL }, Err(Rule::QuorumFew)),
-        14 => (
-            Asked {
-                verdict: None,
-                ..GOOD
-            },
-            Err(Rule::VerdictMissing),
-        ),
-        15 => (
-            Asked {
-                verdict: Some(Verdict {
-                    kind: 3,
-                    valid: 0,
-                    ..YES
-                }),
-                ..GOOD
-            },
-            Err(Rule::VerdictOther { wanted: KEY }),
-        ),
-        16 => (
-            Asked {
-                verdict: Some(Verdict { key: BASE, ..YES }),
-                ..GOOD
-            },
-            Err(Rule::VerdictOther { wanted: KEY }),
-        ),
-        _ => (
-            Asked {
-                verdict: Some(Verdict { valid: 0, ..YES }),
-                ..GOOD
-            },
-            Err(Rule::VerdictNo),
-        ),
-    }
-}
-
 #[test]
-fn each_rule_on_a_commitment(rt: HostRuntime) -> Result<(), Fail> {
-    for n in 0..18 {
-        let (asked, told) = line(n);
-        assert_eq!(rt; judged(rt.alloc(), &asked)?, told, "line {n}");
+fn a_commitment_is_judged(rt: HostRuntime) -> Result<(), Fail> {
+    let alloc = rt.alloc();
+    let mut four = Vec::new(alloc);
+    for hash in [SECOND, FIRST, THIRD, FOURTH] {
+        four.push(hash)?;
     }
+    let formings = [Forming::inside(&SMALL, false, &BASE, four, &KEY)];
+    let good = commitment(alloc, 9)?;
+    let yes = Verdict {
+        tx: 1,
+        kind: 4,
+        key: KEY,
+        valid: 1,
+    };
+    let case = case_of(&formings, &[], 30, 100);
+    assert_eq!(rt; judge_commitment(&case, 30, &good, Some(&yes)), Ok(true));
+    let second = case_of(&formings, &[100], 30, 100);
+    assert_eq!(rt;
+        judge_commitment(&second, 30, &good, Some(&yes)),
+        Err(Rule::QuorumSecond)
+    );
+    let other = case_of(&formings, &[], 30, 1);
+    assert_eq!(rt;
+        judge_commitment(&other, 30, &good, Some(&yes)),
+        Err(Rule::QuorumType { found: 100 })
+    );
     assert!(rt; bit_at(&[0, 2], 9) && !bit_at(&[0, 2], 8) && !bit_at(&[0, 2], 16));
     Ok(())
 }
-
-// The profile that has the first of the types alone.
-const PROFILE: Profile = Profile {
-    id: 1,
-    port: 19_999,
-    confirm: 16,
-    depth: 6,
-    kept: 20,
-    every: 8,
-    journal_max: 262_144,
-    quorums: [Some(SMALL), None, None],
-};
 
 #[test]
 fn mined_commitments(rt: HostRuntime) -> Result<(), Fail> {
     let alloc = rt.alloc();
     let mut mined = Mined::new(alloc);
     assert!(rt; mined.item(0).is_none());
-    let missing_here = Some(Rule::QuorumMissing { kind: 100 });
-    assert_eq!(rt; missing(&PROFILE, 2, 30, &mined, &[]), missing_here);
-    assert_eq!(rt; missing(&PROFILE, 2, 30, &mined, &[100]), None);
     for (height, key) in [(30, 1), (42, 2), (54, 3)] {
-        mined.add(height, commitment(alloc, &Asked { key, ..GOOD })?)?;
+        mined.add(height, commitment(alloc, key)?)?;
     }
-    assert_eq!(rt; missing(&PROFILE, 2, 31, &mined, &[]), None);
     assert!(rt; mined.is_done(&SMALL, 58) && !mined.is_done(&SMALL, 64));
     // None, one, and the last two of three.
     for (height, count, newest) in [
@@ -401,11 +199,24 @@ fn mined_commitments(rt: HostRuntime) -> Result<(), Fail> {
             "at {height}"
         );
     }
-    assert_eq!(rt; mined.active(alloc, &FIRST_MAIN, 54)?.len(), 0);
     mined.undo(42);
     assert_eq!(rt;
         (mined.item(1).map(|m| m.0), mined.item(2).is_none()),
         (Some(42), true)
     );
     Ok(())
+}
+
+#[test]
+fn a_commitment_is_missing(rt: HostRuntime) {
+    let alloc = rt.alloc();
+    let due = [Forming::inside(&SMALL, false, &BASE, Vec::new(alloc), &KEY)];
+    assert_eq!(rt; missing(&due, &[]), Some(Rule::QuorumMissing { kind: 100 }));
+    assert_eq!(rt; missing(&due, &[100]), None);
+    let done = [Forming::inside(&SMALL, true, &BASE, Vec::new(alloc), &KEY)];
+    assert_eq!(rt; missing(&done, &[]), None);
+    assert_eq!(rt;
+        missing(&[Forming::outside(alloc, &SMALL, false)], &[]),
+        None
+    );
 }

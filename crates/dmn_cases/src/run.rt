@@ -4,7 +4,7 @@ use crate::texts::shown;
 use crate::trouble::Trouble;
 use dmn_bytes::Bytes;
 use dmn_commands::{Status, dmn_main};
-use dmn_outside::MemoryStation;
+use dmn_outside::{Image, MemoryStation};
 use std::alloc::Global;
 
 /// A wanted answer, and its line in the file of words.
@@ -98,7 +98,7 @@ impl Run {
         let mut callers = Vec::new(alloc);
         callers.push(self.input.take_out())?;
         let fails = self.fails.to_vec(alloc)?;
-        let mut station = MemoryStation::new(alloc, callers, fails);
+        let mut station = MemoryStation::new(alloc, Image::new(alloc), callers, fails, None);
         let status = dmn_main(alloc, &self.words, &mut station);
         if let Some(difference) = self.compare(alloc, station.sent(0), end_line)? {
             return Ok(Some(difference));

@@ -1,4 +1,7 @@
 mod Taking
 mod Sending
 mod Parts
+mod Replay
 pub mod Passing
+pub mod Crash
+pub mod Places

@@ -1,6 +1,6 @@
 use dmn_bytes::Bytes;
 use dmn_outside::{
-    Device, Failed, Gathered, Line, MemoryStation, SureStation, fill, gather, send_all, skip,
+    Device, Failed, Gathered, Image, Line, MemoryStation, SureStation, fill, gather, send_all, skip,
 };
 use std::alloc::Global;
 use std::test::Fail;
@@ -20,7 +20,8 @@ fn each_call_fails_in_turn(rt: HostRuntime) -> Result<(), Fail> {
     let alloc = rt.alloc();
     for number in 0..7 {
         let callers = texts(alloc, &["hello", "you"])?;
-        let mut line = MemoryStation::new(alloc, callers, [number].to_vec(alloc)?);
+        let fails = [number].to_vec(alloc)?;
+        let mut line = MemoryStation::new(alloc, Image::new(alloc), callers, fails, None);
         let mut buffer = [0; 4];
         let failed = [
             line.take(&mut buffer).is_err(),
@@ -47,7 +48,8 @@ fn each_call_fails_in_turn(rt: HostRuntime) -> Result<(), Fail> {
 fn callers_come_one_after_the_other(rt: HostRuntime) -> Result<(), Fail> {
     let alloc = rt.alloc();
     let callers = texts(alloc, &["hello", "you"])?;
-    let mut line = MemoryStation::new(alloc, callers, [2].to_vec(alloc)?);
+    let fails = [2].to_vec(alloc)?;
+    let mut line = MemoryStation::new(alloc, Image::new(alloc), callers, fails, None);
     let mut buffer = [0; 4];
     assert_eq!(rt; line.take(&mut buffer), Ok(4));
     assert_eq!(rt; &buffer, b"hell");
@@ -73,7 +75,8 @@ fn callers_come_one_after_the_other(rt: HostRuntime) -> Result<(), Fail> {
 #[test]
 fn a_send_fits_the_room_or_fails(rt: HostRuntime) -> Result<(), Fail> {
     let alloc = rt.alloc();
-    let mut line = SureStation::new(alloc, texts(alloc, &["hello", "you"])?, 8)?;
+    let callers = texts(alloc, &["hello", "you"])?;
+    let mut line = SureStation::new(alloc, Image::new(alloc), callers, 8)?;
     let mut buffer = [0; 8];
     assert_eq!(rt; line.take(&mut buffer), Ok(5));
     assert_eq!(rt; line.send(b"three"), Ok(5));
@@ -93,11 +96,8 @@ fn a_send_fits_the_room_or_fails(rt: HostRuntime) -> Result<(), Fail> {
 fn pieces_make_a_whole(rt: HostRuntime) -> Result<(), Fail> {
     let alloc = rt.alloc();
     let long = "a".repeat(alloc, 600)?;
-    let mut line = MemoryStation::new(
-        alloc,
-        texts(alloc, &["onetwo", long.as_str()])?,
-        Vec::new(alloc),
-    );
+    let callers = texts(alloc, &["onetwo", long.as_str()])?;
+    let mut line = MemoryStation::new(alloc, Image::new(alloc), callers, Vec::new(alloc), None);
     let mut buffer = [0; 3];
     let mut body = Bytes::new(alloc);
     assert_eq!(rt; fill(&mut line, &mut buffer), Ok(3));

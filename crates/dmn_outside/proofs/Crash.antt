@@ -1,8 +1,8 @@
 -- How the images of a crash go on from call to call.
-use Rattle.std.proofs.Common.{◌≡◌, ◌⊎◌, inl, inr, ⊎_elim, ℕ, ◌<◌, ◌≤◌, List, [], ◌∷◌, length, take, zero, suc, refl, sym, ◌∙◌, ap, subst, arith, length-take, Result, Ok, Err, OnOk, OnErr, Bool, true, false, nat_lt, if◌then◌else◌}
+use Rattle.std.proofs.Common.{◌≡◌, ◌⊎◌, ◌+◌, inl, inr, ⊎_elim, ℕ, ◌<◌, ◌≤◌, List, [], ◌∷◌, length, take, zero, suc, refl, sym, ◌∙◌, ap, subst, arith, length-take, Result, Ok, Err, OnOk, OnErr, Bool, true, false, nat_lt, if◌then◌else◌}
 use Rattle.std.proofs.lemmas.List.{take_min}
 use Rattle.dmn_outside.specs.Disk.{Three, File, Told, nothing, contents, whole, Past, DiskView, Torn, Leaves, LeavesEach, MayLeave, SinceIn, Since, AreOver, ReadsAreLeft, cut}
-use Rattle.dmn_outside.specs.Changes.{after, after_cut, after_cut_torn, after_read, after_sync, after_torn, after_write, but, moved, past_after, unread, Changes, Keeps, MayChange, OnlyReads}
+use Rattle.dmn_outside.specs.Changes.{after, after_cut, after_cut_torn, after_read, after_sync, after_three, after_torn, after_write, but, moved, past_after, unread, Changes, Keeps, MayChange, OnlyReads}
 use Rattle.dmn_outside.specs.Crashes.{CallsJoin, LeavesOnly}
 
 -- none of the states that are over is so late
@@ -122,12 +122,15 @@ but_after zero f g (whole w) = refl
 but_after (suc zero) f g (whole w) = refl
 but_after (suc (suc n)) f g (whole w) = refl
 
+pub but_does : (at file : ℕ) (f : List ℕ → List ℕ) (g : File → File) (old new : DiskView) → Changes at (after file f g) old new → but file new.told ≡ but file old.told
+but_does at file f g old new does = ap (λ (d : Told). but file d) does.told ∙ but_after file f g old.told
+
 pub but_may : (at file : ℕ) (f : List ℕ → List ℕ) (g : File → File) (old new : DiskView) → MayChange at (after file f g) old new → but file new.told ≡ but file old.told
 but_may at file f g old new (inl keeps) = ap (λ (d : Told). but file d) keeps.told
-but_may at file f g old new (inr does) = ap (λ (d : Told). but file d) does.told ∙ but_after file f g old.told
+but_may at file f g old new (inr does) = but_does at file f g old new does
 
 pub but_syncs : {T E : Type 0} (at file : ℕ) (r : Result T E) (old new : DiskView) → OnOk r (Changes at (after_sync file) old new) → OnErr r (Keeps old new) → but file new.told ≡ but file old.told
-but_syncs at file (Ok v) old new done failed = ap (λ (d : Told). but file d) done.told ∙ but_after file _ _ old.told
+but_syncs at file (Ok v) old new done failed = but_does at file _ _ old new done
 but_syncs at file (Err e) old new done failed = ap (λ (d : Told). but file d) failed.told
 
 -- a change of a file that leaves its images possible
@@ -197,6 +200,31 @@ cut_keeps file n = keeps_possible file _ _ (λ s c left. cut_keeps_file n (nat_l
 
 pub cut_torn_is_cut : (file n : ℕ) (d : Told) (image : Three (List ℕ)) → MayLeave (after_cut_torn file n d) image → MayLeave (after_cut file n d) image
 cut_torn_is_cut file n = fewer_images file _ _ _ _ (λ s c left. cut_torn_file n (nat_lt n (length s.reads)) s c left)
+
+-- a write more, done or failed, where what was told is known
+module _ (start : ℕ) (old mid new : DiskView) (P : Three (List ℕ) → Type 0) (so_far : LeavesOnly start old mid P) (at file place : ℕ) (bytes : List ℕ) (told : Told) (is : mid.told ≡ told)
+    (here : (image : Three (List ℕ)) → MayLeave (after_write file place bytes told) image → P image) where
+  pub writes_on : Changes at (after_write file place bytes) mid new → LeavesOnly start old new P
+  writes_on does = goes_on start old mid new P so_far at (after_write file place bytes) does (λ image now. here image (subst (λ (d : Told). MayLeave (after_write file place bytes d) image) is now))
+
+  pub tears_on : MayChange at (after_torn file place (length bytes)) mid new → LeavesOnly start old new P
+  tears_on may = may_go_on start old mid new P so_far at (after_torn file place (length bytes)) may
+      (λ image now. here image (subst (λ (d : Told). MayLeave (after_write file place bytes d) image) is (torn_is_write file place bytes mid.told image now)))
+
+-- three writes one behind the other
+module _ (file at : ℕ) (first second third : List ℕ) (d : Told) where
+  pub three_keep : (image : Three (List ℕ)) → MayLeave d image → MayLeave (after_three file at first second third d) image
+  three_keep image now =
+      write_keeps file (at + length first + length second) third (after_write file (at + length first) second (after_write file at first d)) image
+      (write_keeps file (at + length first) second (after_write file at first d) image (write_keeps file at first d image now))
+
+  pub two_keep : (image : Three (List ℕ)) → MayLeave (after_write file at first d) image → MayLeave (after_three file at first second third d) image
+  two_keep image now =
+      write_keeps file (at + length first + length second) third (after_write file (at + length first) second (after_write file at first d)) image
+      (write_keeps file (at + length first) second (after_write file at first d) image now)
+
+  pub one_keeps : (image : Three (List ℕ)) → MayLeave (after_write file (at + length first) second (after_write file at first d)) image → MayLeave (after_three file at first second third d) image
+  one_keeps image now = write_keeps file (at + length first + length second) third (after_write file (at + length first) second (after_write file at first d)) image now
 
 -- ---- the rule that joins calls to runs
 

@@ -68,6 +68,11 @@ after_cut_torn file n = after file (λ old. old) (file_cut_torn n)
 abbrev pub after_sync : ℕ → Told → Told
 after_sync file = after file (λ old. old) file_synced
 
+-- three texts written one behind the other
+abbrev pub after_three : ℕ → ℕ → List ℕ → List ℕ → List ℕ → Told → Told
+after_three file at first second third told =
+    after_write file (at + length first + length second) third (after_write file (at + length first) second (after_write file at first told))
+
 unfoldable pub after_read : ℕ → ℕ → ℕ → Told → Told
 after_read file at n nothing = nothing
 after_read file at n (contents c) = contents c

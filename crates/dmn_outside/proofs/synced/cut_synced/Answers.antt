@@ -1,7 +1,7 @@
-use Rattle.std.proofs.Common.{◌∙◌, ap, subst}
-use Rattle.dmn_outside.specs.Changes.{after_cut, but}
+use Rattle.std.proofs.Common.{◌∙◌, subst}
+use Rattle.dmn_outside.specs.Changes.{after_cut}
 use Rattle.dmn_outside.specs.Disk.{Told, MayLeave}
-use Rattle.dmn_outside.proofs.Crash.{started, goes_on, may_go_on, syncs, cut_keeps, cut_torn_is_cut, but_after, but_may, but_syncs}
+use Rattle.dmn_outside.proofs.Crash.{started, goes_on, may_go_on, syncs, cut_keeps, cut_torn_is_cut, but_does, but_may, but_syncs}
 use Rattle.dmn_outside.proofs.synced.cut_synced.Goals as goal
 
 pub returns-in_err-cut-clause-moments : goal.returns-in_err-cut-clause-moments
@@ -25,6 +25,4 @@ returns-in_err-cut-clause-others g c = but_may _ c.args.file _ _ _ _ c.in_err-cu
 
 pub returns-clause-others : goal.returns-clause-others
 returns-clause-others g c =
-    but_syncs _ c.args.file c.sync.result _ _ c.sync.ensures.disk c.sync.ensures.failed
-    ∙ ap (λ (e : Told). but c.args.file e) c.in_ok-cut.ensures.disk.told
-    ∙ but_after c.args.file _ _ (g.D.Device.disk c.args.disk.now).told
+    but_syncs _ c.args.file c.sync.result _ _ c.sync.ensures.disk c.sync.ensures.failed ∙ but_does _ c.args.file _ _ _ _ c.in_ok-cut.ensures.disk

@@ -1,7 +1,7 @@
-use Rattle.std.proofs.Common.{◌∙◌, ap, subst}
-use Rattle.dmn_outside.specs.Changes.{after_write, but}
+use Rattle.std.proofs.Common.{◌∙◌, subst}
+use Rattle.dmn_outside.specs.Changes.{after_write}
 use Rattle.dmn_outside.specs.Disk.{Told, MayLeave}
-use Rattle.dmn_outside.proofs.Crash.{started, goes_on, may_go_on, syncs, write_keeps, torn_is_write, but_after, but_may, but_syncs}
+use Rattle.dmn_outside.proofs.Crash.{started, goes_on, may_go_on, syncs, write_keeps, torn_is_write, but_does, but_may, but_syncs}
 use Rattle.dmn_outside.proofs.synced.write_synced.Goals as goal
 
 pub returns-in_err-write_at-clause-moments : goal.returns-in_err-write_at-clause-moments
@@ -25,6 +25,4 @@ returns-in_err-write_at-clause-others g c = but_may _ c.args.file _ _ _ _ c.in_e
 
 pub returns-clause-others : goal.returns-clause-others
 returns-clause-others g c =
-    but_syncs _ c.args.file c.sync.result _ _ c.sync.ensures.disk c.sync.ensures.failed
-    ∙ ap (λ (e : Told). but c.args.file e) c.in_ok-write_at.ensures.disk.told
-    ∙ but_after c.args.file _ _ (g.D.Device.disk c.args.disk.now).told
+    but_syncs _ c.args.file c.sync.result _ _ c.sync.ensures.disk c.sync.ensures.failed ∙ but_does _ c.args.file _ _ _ _ c.in_ok-write_at.ensures.disk

@@ -5,3 +5,4 @@ mod Replay
 pub mod Passing
 pub mod Crash
 pub mod Places
+pub mod Reading

@@ -1,6 +1,6 @@
 -- What each call of a disk does to what is told of it.
 use Rattle.std.specs.Prelude.{◌≡◌, ◌⊎◌, ℕ, ◌+◌, ◌-◌, min, List, [], ◌∷◌, ◌++◌, length, take, drop, replicate, Option, Some, None, if◌then◌else◌, nat_lt, nat_eq}
-use Rattle.dmn_outside.specs.Disk.{Three, change, wrote, cut, File, Reads, Crash, Told, nothing, contents, whole, Past, DiskView}
+use Rattle.dmn_outside.specs.Disk.{Three, change, pick, wrote, cut, File, Reads, Crash, Told, nothing, contents, whole, Past, DiskView}
 
 -- ---- one file
 
@@ -77,6 +77,12 @@ unfoldable pub after_read : ℕ → ℕ → ℕ → Told → Told
 after_read file at n nothing = nothing
 after_read file at n (contents c) = contents c
 after_read file at n (whole w) = whole (record { files = w.files; read = change file (reads_more at n) w.read })
+
+-- how many bytes of a file were read so far, where that is told
+unfoldable pub bytes_read : ℕ → Told → ℕ
+bytes_read file nothing = 0
+bytes_read file (contents c) = 0
+bytes_read file (whole w) = (pick file w.read).bytes
 
 -- what is told of the other files, and of what was read
 unfoldable pub but : ℕ → Told → Told

@@ -5,9 +5,19 @@ ghost use Rattle.dmn_outside.specs.Disk.{AreOver, DiskView, ReadsAreLeft, TellsA
 ghost use Rattle.dmn_outside.specs.Failing.{Plan};
 ghost use Rattle.dmn_outside.specs.Line.{LineView};
 
+use crate::Failed;
+
 /// A disk failed.
 #[derive(Clone, Copy, Debug, PartialEq, Eq)]
 pub struct DiskFault;
+
+impl From<Failed> for DiskFault {
+    ghost from_gives = { λ failed fault. Unit {0} };
+
+    fn from(_: Failed) -> DiskFault {
+        DiskFault
+    }
+}
 
 /// A line failed.
 #[derive(Clone, Copy, Debug, PartialEq, Eq)]

@@ -1,0 +1,5 @@
+pub mod Append
+pub mod Creating
+pub mod Unique
+mod Pieces
+mod Heads

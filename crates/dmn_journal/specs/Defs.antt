@@ -1,0 +1,7 @@
+-- The journal as the contracts see it. A reader begins here; the parts are:
+--   Journal  its text, the commands of a file, and what a crash within an append leaves
+--   Create   a blank file, and what a crash within the making of a journal leaves
+--   Reading  what stands at a place of a file: a header, a record, a closed gate, or a departure from the form
+--   Reads    what the reading calls answer, by their result
+--   Record   the bytes of a record that is made
+--   Faults   how faults of one call become those of another

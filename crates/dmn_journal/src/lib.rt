@@ -1,0 +1,19 @@
+//! The journal: commands in a file, each on the disk before it is answered.
+#![tactic(auto)]
+
+mod fault;
+mod head;
+mod journal;
+mod limits;
+mod making;
+mod record;
+mod records;
+mod text;
+
+pub use fault::{AppendFault, JournalFault};
+pub use head::header;
+pub use journal::Journal;
+pub use limits::{CONNECT, DISCONNECT, LONGEST_BODY};
+pub use making::create;
+pub use record::{RecordText, disconnect_text, entry_text};
+pub use records::{JournalEntry, next};

@@ -1,13 +1,12 @@
 -- What stands at the places that were read.
 use Rattle.std.proofs.Common.{◌≡◌, ℕ, ◌+◌, ◌≤◌, ◌<◌, ◌==◌, ◌^◌, Bool, true, false, List, [], ◌∷◌, ◌++◌, length, take, drop, get_or, sym, ap, ◌∙◌, arith, refl, if◌then◌else◌, append_assoc, length-append, take-append-drop}
-use Rattle.std.specs.Prelude.{Option, None, Some, Err}
+use Rattle.std.specs.Prelude.{None, Some, Err}
 use Rattle.std.specs.Int.{w32, to_le_bytes, from_le_bytes}
 use Rattle.std.specs.Str.{bytes_eq}
-use Rattle.std.proofs.lemmas.Bool.{le-ltb, lt-ltb}
+use Rattle.std.proofs.lemmas.Bool.{lt-ltb}
 use Rattle.std.proofs.lemmas.List.{drop-drop, length-drop, length-take, take_all}
 use Rattle.std.proofs.Math.Seq.{take-add}
 use Rattle.std.proofs.lemmas.Nat.{le_bytes_4}
-use Rattle.dmn_bytes.specs.Defs.{Departs}
 use Rattle.dmn_bytes.specs.Format.{whole}
 use Rattle.dmn_outside.specs.Changes.{unread}
 use Rattle.dmn_outside.specs.Disk.{Told, IfReads}
@@ -190,21 +189,9 @@ header_is told size behind text start prefix is_start is long few place read =
           ∙ sym (append_assoc front (start_text start) (drop behind all.zeroth)));
     }
 
--- a start record that departs
-departs_at : (text : List ℕ) (at : ℕ) → Departs start_record text at → place_in (whole start_record text) ≡ Some at
-departs_at text at (d, is, place) = ap place_in is ∙ ap (λ (n : ℕ). Some n) place
-
-pub start_short : (size : ℕ) (rest text : List ℕ) → length text < size → text ≡ take size rest → start_at size rest ≡ Some 12
+-- a start record that is cut
+start_short : (size : ℕ) (rest text : List ℕ) → length text < size → text ≡ take size rest → start_at size rest ≡ Some 12
 start_short size rest text few same = ap (λ (b : Bool). if b then Some 12 else later 12 (place_in (whole start_record (take size rest)))) (lt-ltb _ _ (omega (arith, ap length same, few)))
-
-pub start_wrong : (size at : ℕ) (rest text : List ℕ) → size ≤ length text → text ≡ take size rest → Departs start_record text at → start_at size rest ≡ Some (12 + at)
-start_wrong size at rest text long same departs_there =
-    ap (λ (b : Bool). if b then Some 12 else later 12 (place_in (whole start_record (take size rest)))) (le-ltb _ _ (omega (arith, ap length same, long)))
-    ∙ ap (λ (l : List ℕ). later 12 (place_in (whole start_record l))) (sym same)
-    ∙ ap (λ (o : Option ℕ). later 12 o) (departs_at text at departs_there)
 
 pub header_short : (told : Told) (size : ℕ) (text : List ℕ) → IsPrefix told size → length text < size → IfReads told (λ all. text ≡ take size (drop 12 all.zeroth)) → IfReads told (λ all. header_departs all.zeroth ≡ Some 12)
 header_short told size text prefix few read = reads_both told _ _ _ prefix.rest read (λ all is same. is ∙ start_short size (drop 12 all.zeroth) text few same)
-
-pub header_wrong : (told : Told) (size at : ℕ) (text : List ℕ) → IsPrefix told size → size ≤ length text → IfReads told (λ all. text ≡ take size (drop 12 all.zeroth)) → Departs start_record text at → IfReads told (λ all. header_departs all.zeroth ≡ Some (12 + at))
-header_wrong told size at text prefix long read wrong = reads_both told _ _ _ prefix.rest read (λ all is same. is ∙ start_wrong size at (drop 12 all.zeroth) text long same wrong)

@@ -3,5 +3,6 @@
 --   Create   a blank file, and what a crash within the making of a journal leaves
 --   Reading  what stands at a place of a file: a header, a record, a closed gate, or a departure from the form
 --   Reads    what the reading calls answer, by their result
+--   Sure     a disk that tells its room
 --   Record   the bytes of a record that is made
 --   Faults   how faults of one call become those of another

@@ -5,3 +5,4 @@ pub mod Record
 pub mod Reading
 pub mod Faults
 pub mod Reads
+pub mod Sure

@@ -1,10 +1,12 @@
 //! The header of file 0.
 
-ghost use Rattle.std.specs.Prelude.{◌≡◌, ◌+◌, ◌<◌, ◌≤◌, ◌^◌, length, IfOk, IsErrOf};
+ghost use Rattle.std.specs.Prelude.{◌≡◌, ◌+◌, ◌<◌, ◌≤◌, ◌^◌, length, true, IfOk, IsErrOf};
 ghost use Rattle.std.specs.Str.{bytes_eq};
 ghost use Rattle.dmn_outside.specs.Changes.{OnlyReads, bytes_read};
 ghost use Rattle.dmn_outside.specs.Counts.{HasCause, Rose};
+ghost use Rattle.dmn_outside.specs.Failing.{DoesSurely};
 ghost use Rattle.dmn_journal.specs.Reads.{Heads, IsPrefix, Prefixes};
+ghost use Rattle.dmn_journal.specs.Sure.{NeverFails};
 
 use crate::fault::JournalFault;
 use crate::making::MAGIC;
@@ -36,6 +38,7 @@ fn read_prefix<D: Disk>(disk: &mut D) -> Result<Prefix, Failed>
     ensures room { D.room disk.new ≡ D.room disk.old }
     ensures time { D.time disk.old ≤ D.time disk.new }
     ensures cause { HasCause (D.disk disk.old).faults (D.disk disk.new).faults result }
+    ensures sure { D.tells_room ≡ true → DoesSurely result (D.disk disk.old) (D.disk disk.new) }
 {
     let mut gate = [0; 1];
     let n = read_front(disk, 0, &mut gate)?;
@@ -69,6 +72,7 @@ fn start_behind<D: Disk>(
     ensures time { D.time disk.old ≤ D.time disk.new }
     ensures later { (D.disk disk.old).faults ≤ (D.disk disk.new).faults }
     ensures fault { IsErrOf result JournalFault.DiskFault → Rose (D.disk disk.old).faults (D.disk disk.new).faults }
+    ensures sure { D.tells_room ≡ true → NeverFails result JournalFault.DiskFault (D.disk disk.old) (D.disk disk.new) }
 {
     let text = read_text(alloc, disk, 12, size)?;
     if text.len() < size as usize {
@@ -93,6 +97,7 @@ pub fn header<D: Disk>(alloc: Global, disk: &mut D) -> Result<(StartRecord, u64)
     ensures time { D.time disk.old ≤ D.time disk.new }
     ensures later { (D.disk disk.old).faults ≤ (D.disk disk.new).faults }
     ensures fault { IsErrOf result JournalFault.DiskFault → Rose (D.disk disk.old).faults (D.disk disk.new).faults }
+    ensures sure { D.tells_room ≡ true → NeverFails result JournalFault.DiskFault (D.disk disk.old) (D.disk disk.new) }
 {
     match read_prefix(disk)? {
         Prefix::DepartsAt(at) => Err(JournalFault::NotJournal { at }),

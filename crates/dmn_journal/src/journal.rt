@@ -5,6 +5,7 @@ ghost use Rattle.dmn_outside.specs.Changes.{but};
 ghost use Rattle.dmn_outside.specs.Counts.{Rose};
 ghost use Rattle.dmn_outside.specs.Crashes.{LeavesOnly};
 ghost use Rattle.dmn_journal.specs.Journal.{Appending, Entry, Stands, size_of_record};
+ghost use Rattle.dmn_journal.specs.Sure.{NeverFails};
 
 use crate::fault::AppendFault;
 use crate::record::RecordText;
@@ -34,6 +35,9 @@ impl Journal {
         // DiskFault comes only where the count of disk faults rose.
         ensures fault { IsErrOf result AppendFault.DiskFault → Rose (D.disk disk.old).faults (D.disk disk.new).faults }
         ensures later { (D.disk disk.old).faults ≤ (D.disk disk.new).faults }
+
+        // A disk that tells its room, and has as much, does not fail.
+        ensures sure { D.tells_room ≡ true → self.old.end + 1 + size_of_record entry.now ≤ (D.disk disk.old).room → NeverFails result AppendFault.DiskFault (D.disk disk.old) (D.disk disk.new) }
         ensures end { OnOk result (self.new.end ≡ self.old.end + size_of_record entry.now) }
         ensures records { OnOk result (self.new.records ≡ self.old.records + 1) }
 

@@ -1,10 +1,11 @@
 //! A journal is made in four parts: files 1 and 2 are cut, file 0 is cut and its gate closed, the header's rest is
 //! written, and the gate is opened.
 
-ghost use Rattle.std.specs.Prelude.{◌≡◌, ◌<◌, ◌≤◌, ◌^◌, [], ◌∷◌, ◌++◌, length, OnOk};
+ghost use Rattle.std.specs.Prelude.{◌≡◌, ◌+◌, ◌<◌, ◌≤◌, ◌^◌, [], ◌∷◌, ◌++◌, length, true, IsOk, OnOk};
 ghost use Rattle.std.specs.Int.{w32, to_le_bytes};
 ghost use Rattle.dmn_outside.specs.Counts.{HasCause};
 ghost use Rattle.dmn_outside.specs.Crashes.{LeavesOnly};
+ghost use Rattle.dmn_outside.specs.Failing.{DoesSurely, KeepsDisk};
 ghost use Rattle.dmn_journal.specs.Create.{HoldsText, IsBlank, IsBlankDisk, IsBlankOrMade, behind_gate};
 ghost use Rattle.dmn_journal.specs.Journal.{magic};
 
@@ -30,6 +31,7 @@ fn empty_files<D: Disk>(disk: &mut D) -> Result<(), Failed>
     ensures room { D.room disk.new ≡ D.room disk.old }
     ensures time { D.time disk.old ≤ D.time disk.new }
     ensures cause { HasCause (D.disk disk.old).faults (D.disk disk.new).faults result }
+    ensures sure { D.tells_room ≡ true → DoesSurely result (D.disk disk.old) (D.disk disk.new) }
 {
     cut_synced(disk, 1, 0)?;
     cut_synced(disk, 2, 0)?;
@@ -44,6 +46,7 @@ fn write_header<D: Disk>(disk: &mut D, start: &[u8]) -> Result<(), Failed>
     ensures room { D.room disk.new ≡ D.room disk.old }
     ensures time { D.time disk.old ≤ D.time disk.new }
     ensures cause { HasCause (D.disk disk.old).faults (D.disk disk.new).faults result }
+    ensures sure { D.tells_room ≡ true → 13 + length start.now ≤ (D.disk disk.old).room → DoesSurely result (D.disk disk.old) (D.disk disk.new) }
 {
     let front = front_of(start.len() as u32);
     write_synced(disk, 0, 0, &[0])?;
@@ -62,6 +65,9 @@ pub fn create<D: Disk>(disk: &mut D, start: &[u8]) -> Result<(), DiskFault>
     ensures room { D.room disk.new ≡ D.room disk.old }
     ensures time { D.time disk.old ≤ D.time disk.new }
     ensures cause { HasCause (D.disk disk.old).faults (D.disk disk.new).faults result }
+
+    // A disk that tells its room, and has as much, does not fail.
+    ensures sure { D.tells_room ≡ true → 13 + length start.now ≤ (D.disk disk.old).room → IsOk result × KeepsDisk (D.disk disk.old) (D.disk disk.new) }
 {
     empty_files(disk)?;
     write_header(disk, start)?;

@@ -1,10 +1,11 @@
 //! The records of file 0, one after another.
 
-ghost use Rattle.std.specs.Prelude.{◌≡◌, ◌+◌, ◌-◌, ◌<◌, ◌≤◌, ◌^◌, length, IfOk, IfSome, IsErrOf};
+ghost use Rattle.std.specs.Prelude.{◌≡◌, ◌+◌, ◌-◌, ◌<◌, ◌≤◌, ◌^◌, length, true, IfOk, IfSome, IsErrOf};
 ghost use Rattle.dmn_outside.specs.Changes.{OnlyReads, bytes_read};
 ghost use Rattle.dmn_outside.specs.Counts.{Rose};
 ghost use Rattle.dmn_journal.specs.Reading.{entry_departs};
 ghost use Rattle.dmn_journal.specs.Reads.{Contents, Gates, Nexts, Sizeds, record_size};
+ghost use Rattle.dmn_journal.specs.Sure.{NeverFails};
 
 use crate::fault::JournalFault;
 use crate::limits::{CONNECT, DISCONNECT, LONGEST_BODY};
@@ -61,6 +62,7 @@ fn content<D: Disk>(
     ensures time { D.time disk.old ≤ D.time disk.new }
     ensures later { (D.disk disk.old).faults ≤ (D.disk disk.new).faults }
     ensures fault { IsErrOf result JournalFault.DiskFault → Rose (D.disk disk.old).faults (D.disk disk.new).faults }
+    ensures sure { D.tells_room ≡ true → NeverFails result JournalFault.DiskFault (D.disk disk.old) (D.disk disk.new) }
 {
     let text = read_text(alloc, disk, at + 5, size)?;
     if text.len() < size as usize {
@@ -99,6 +101,7 @@ fn record_behind<D: Disk>(
     ensures time { D.time disk.old ≤ D.time disk.new }
     ensures later { (D.disk disk.old).faults ≤ (D.disk disk.new).faults }
     ensures fault { IsErrOf result JournalFault.DiskFault → Rose (D.disk disk.old).faults (D.disk disk.new).faults }
+    ensures sure { D.tells_room ≡ true → NeverFails result JournalFault.DiskFault (D.disk disk.old) (D.disk disk.new) }
 {
     let mut sizes = [0; 4];
     let n = read_front(disk, at + 1, &mut sizes)?;
@@ -149,6 +152,7 @@ pub fn next<D: Disk>(
     ensures time { D.time disk.old ≤ D.time disk.new }
     ensures later { (D.disk disk.old).faults ≤ (D.disk disk.new).faults }
     ensures fault { IsErrOf result JournalFault.DiskFault → Rose (D.disk disk.old).faults (D.disk disk.new).faults }
+    ensures sure { D.tells_room ≡ true → NeverFails result JournalFault.DiskFault (D.disk disk.old) (D.disk disk.new) }
 {
     let mut gate = [0; 1];
     let n = read_front(disk, at, &mut gate)?;

@@ -1,10 +1,12 @@
 //! Bytes of file 0.
 
-ghost use Rattle.std.specs.Prelude.{◌≡◌, ◌+◌, ◌<◌, ◌≤◌, ◌^◌, length, take, drop, IfOk, IsErrOf};
+ghost use Rattle.std.specs.Prelude.{◌≡◌, ◌+◌, ◌<◌, ◌≤◌, ◌^◌, length, take, drop, true, IfOk, IsErrOf};
 ghost use Rattle.std.specs.Int.{w32, from_le_bytes, to_le_bytes};
 ghost use Rattle.dmn_outside.specs.Changes.{OnlyReads, bytes_read};
 ghost use Rattle.dmn_outside.specs.Counts.{HasCause, Rose};
 ghost use Rattle.dmn_outside.specs.Disk.{IfReads};
+ghost use Rattle.dmn_outside.specs.Failing.{DoesSurely};
+ghost use Rattle.dmn_journal.specs.Sure.{NeverFails};
 
 use crate::fault::TextFault;
 use dmn_bytes::Bytes;
@@ -22,6 +24,7 @@ pub fn read_front<D: Disk>(disk: &mut D, at: u64, buffer: &mut [u8]) -> Result<u
     ensures room { D.room disk.new ≡ D.room disk.old }
     ensures time { D.time disk.old ≤ D.time disk.new }
     ensures cause { HasCause (D.disk disk.old).faults (D.disk disk.new).faults result }
+    ensures sure { D.tells_room ≡ true → DoesSurely result (D.disk disk.old) (D.disk disk.new) }
 {
     disk.read_at(0, at, buffer)
 }
@@ -56,6 +59,7 @@ pub fn read_text<D: Disk>(
     ensures time { D.time disk.old ≤ D.time disk.new }
     ensures later { (D.disk disk.old).faults ≤ (D.disk disk.new).faults }
     ensures fault { IsErrOf result TextFault.DiskFault → Rose (D.disk disk.old).faults (D.disk disk.new).faults }
+    ensures sure { D.tells_room ≡ true → NeverFails result TextFault.DiskFault (D.disk disk.old) (D.disk disk.new) }
 {
     let mut buffer = [0; 4096];
     let mut text = Bytes::new(alloc);

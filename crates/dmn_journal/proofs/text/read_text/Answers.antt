@@ -49,6 +49,7 @@ read-preserved g c =
       size = ap length c.in_ok-extend.ensures.ok ∙ omega (arith, length-append c.read.text (take c.in_ok-n.n (c.read_at.new.out ++ drop c.min-room.result c.read.buffer)), length-take c.in_ok-n.n (c.read_at.new.out ++ drop c.min-room.result c.read.buffer), length-append c.read_at.new.out (drop c.min-room.result c.read.buffer), fits, all_room, c.read.invariant.size);
       disk = only_reads 0 _ _ _ _ _ c.read.invariant.disk c.in_ok-n.ensures.disk c.in_ok-n.ensures.past;
       read = omega (arith, c.read.invariant.read, more, all_room);
+      sure = search rules;
       room = search rules;
       line = search rules;
       time = search rules;

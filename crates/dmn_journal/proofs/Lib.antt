@@ -3,3 +3,4 @@ pub mod Creating
 pub mod Unique
 mod Pieces
 mod Heads
+pub mod Found

@@ -4,5 +4,6 @@
 --   Reading  what stands at a place of a file: a header, a record, a closed gate, or a departure from the form
 --   Reads    what the reading calls answer, by their result
 --   Sure     a disk that tells its room
+--   Laws     that a file has its commands once, and that reading finds what stands there
 --   Record   the bytes of a record that is made
 --   Faults   how faults of one call become those of another

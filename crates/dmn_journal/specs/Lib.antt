@@ -6,3 +6,4 @@ pub mod Reading
 pub mod Faults
 pub mod Reads
 pub mod Sure
+pub mod Laws

@@ -4,6 +4,7 @@
 mod fault;
 mod head;
 mod journal;
+mod laws;
 mod limits;
 mod making;
 mod record;
@@ -13,6 +14,7 @@ mod text;
 pub use fault::{AppendFault, JournalFault};
 pub use head::header;
 pub use journal::Journal;
+pub use laws::{commands_once, others_are_closed, records_are_found};
 pub use limits::{CONNECT, DISCONNECT, LONGEST_BODY};
 pub use making::create;
 pub use record::{RecordText, disconnect_text, entry_text};

@@ -1,0 +1,16 @@
+-- Laws about the definitions.
+use Rattle.std.specs.Prelude.{◌≡◌, ◌≢◌, ℕ, List, ◌∷◌, ◌++◌, None}
+use Rattle.dmn_journal.specs.Journal.{Entry, HasCommands, IsShort, entry_text}
+use Rattle.dmn_journal.specs.Reading.{closed, entry_departs, found, found_at}
+
+-- A file has its commands once: behind a header there is one list of records up to the first closed gate.
+abbrev pub CommandsOnce : Type 0
+CommandsOnce = (header : List ℕ) (one two : List Entry) (file : List ℕ) → HasCommands header one file → HasCommands header two file → one ≡ two
+
+-- Where an open gate and the text of a record in form stand, this record is found.
+abbrev pub RecordsAreFound : Type 0
+RecordsAreFound = (at : ℕ) (text rest : List ℕ) (entry : Entry) → entry_departs entry ≡ None → IsShort entry → text ≡ 1 ∷ (entry_text entry ++ rest) → found_at at text ≡ found entry
+
+-- A gate is closed where a byte other than 1 stands.
+abbrev pub OthersAreClosed : Type 0
+OthersAreClosed = (at : ℕ) (text rest : List ℕ) (gate : ℕ) → text ≡ gate ∷ rest → gate ≢ 1 → found_at at text ≡ closed

@@ -9,8 +9,7 @@ ghost use Rattle.dmn_outside.specs.Failing.{DoesSurely, IsPlanned, IsPlannedAlon
 use crate::{Device, Failed};
 
 /// Files 0, 1 and 2, which are independent. Until a sync a crash may leave what was written or cut since the last one, the
-/// file as it was, or a part of each. Where the time of a station that tells images stands at its last value, it changes no
-/// file any more: its writes, cuts and syncs fail, and leave nothing.
+/// file as it was, or a part of each.
 pub trait Disk: Device {
     /// How many bytes the file has.
     fn size(&mut self, file: u8) -> Result<u64, Failed>

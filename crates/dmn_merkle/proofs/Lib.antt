@@ -1,2 +1,5 @@
 pub mod Levels
 pub mod Waiting
+pub mod Halving
+pub mod Branches
+pub mod Judged

@@ -1,5 +1,7 @@
--- The Merkle root by whole levels (DIP-0004; the tree of Bitcoin's blocks). A reader begins here; the other part is
---   OnePass  what waits at each level while hashes come one by one
+-- The Merkle root by whole levels (DIP-0004; the tree of Bitcoin's blocks). A reader begins here; the other parts are
+--   OnePass     what waits at each level while hashes come one by one
+--   Branch      the branch that proves the first of the leaves, and its test
+--   BranchText  the table of a branch's fields
 use Rattle.std.specs.Prelude.{ℕ, zero, suc, List, [], ◌∷◌, ◌++◌, length, replicate}
 use Rattle.dmn_bytes.specs.Hash.{dsha}
 use Rattle.dmn_bytes.specs.declared.hash.Hash256.{Hash256}

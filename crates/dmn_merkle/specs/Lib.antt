@@ -1,2 +1,4 @@
 pub mod Defs
 pub mod OnePass
+pub mod Branch
+pub mod BranchText

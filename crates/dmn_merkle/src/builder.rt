@@ -125,7 +125,7 @@ fn top(waits: Option<Hash256>, carry: Option<Hash256>) -> Hash256
 }
 
 #[tactic(auto, unfolding(crate::specs::Defs::pair))]
-fn pair(left: &Hash256, right: &Hash256) -> Hash256
+pub(crate) fn pair(left: &Hash256, right: &Hash256) -> Hash256
     ensures { result ≡ pair left.now right.now }
 {
     dsha2(left, right)

@@ -40,6 +40,14 @@ impl SmlList {
         }
     }
 
+    /// The list of these entries, which ascend. This takes no memory.
+    pub fn from_ascending(entries: Vec<SmlEntry>) -> SmlList
+        requires { IsAscending entries.items }
+        ensures { result ≡ entries.items }
+    {
+        SmlList { entries }
+    }
+
     /// Adds an entry in its place, or replaces the one of its hash. Without memory nothing changes.
     pub fn put(&mut self, entry: SmlEntry) -> Result<(), Memory>
         ensures ok { OnOk result (self.new ≡ put_entry entry self.old) }

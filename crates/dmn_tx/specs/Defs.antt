@@ -1,6 +1,7 @@
 -- Transactions (DIP-0002), their ids and the hashes of their inputs. A reader begins here; the parts are:
---   Tx      the table of a transaction's fields, and which payloads it may have
---   Fault   what a fault says of a text
+--   Tx        the table of a transaction's fields, and which payloads it may have
+--   Coinbase  which transactions are coinbases
+--   Fault     what a fault says of a text
 use Rattle.std.specs.Prelude.{ℕ, List}
 use Rattle.std.specs.List.{flat_map}
 use Rattle.dmn_bytes.specs.declared.hash.Hash256.{Hash256}

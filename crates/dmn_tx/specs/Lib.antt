@@ -1,3 +1,4 @@
 pub mod Defs
 pub mod Tx
+pub mod Coinbase
 pub mod Fault

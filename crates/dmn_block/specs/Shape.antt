@@ -12,8 +12,7 @@ use Rattle.dmn_bytes.specs.declared.hash.Hash256.{Hash256}
 use Rattle.dmn_bytes.specs.Format.{whole}
 use Rattle.dmn_bytes.specs.Points.{is_zero}
 use Rattle.dmn_tx.specs.declared.tx.Tx.{Tx}
-use Rattle.dmn_tx.specs.declared.tx.TxIn.{TxIn}
-use Rattle.dmn_tx.specs.declared.kinds.TheConstants.{COINBASE_TX, SPECIAL_VERSION}
+pub use Rattle.dmn_tx.specs.Coinbase.{is_coinbase, is_cb_type}
 use Rattle.dmn_merkle.specs.Defs.{merkle_root}
 use Rattle.dmn_payloads.specs.Payloads.{cb}
 use Rattle.dmn_payloads.specs.declared.payloads.CbTx.{CbTx}
@@ -56,19 +55,6 @@ abbrev pub passes : {X : Type 0} → (X → Bool) → Option X → Bool
 passes test None = false
 passes test (Some x) = test x
 
--- the outpoint of no output
-abbrev pub is_null_input : TxIn → Bool
-is_null_input input = is_zero input.point.hash.0 && (input.point.index == 0xffffffff)
-
-abbrev pub is_one_null : List TxIn → Bool
-is_one_null [] = false
-is_one_null (input ∷ []) = is_null_input input
-is_one_null (input ∷ more ∷ rest) = false
-
--- a coinbase has exactly one input, and it spends nothing
-unfoldable pub is_coinbase : Tx → Bool
-is_coinbase tx = is_one_null tx.inputs
-
 unfoldable pub begins_with_coinbase : List Tx → Bool
 begins_with_coinbase txs = passes is_coinbase (slice_get txs 0)
 
@@ -100,9 +86,6 @@ version_of payload = from_le_bytes w16 (take 2 payload)
 -- it has no two bytes, or is of version 1 and isn't a coinbase's payload
 unfoldable pub is_no_payload : List ℕ → Bool
 is_no_payload payload = nat_lt (length payload) 2 || ((version_of payload == 1) && not (is_ok (whole cb payload)))
-
-unfoldable pub is_cb_type : Tx → Bool
-is_cb_type tx = (tx.version == SPECIAL_VERSION) && (tx.kind == COINBASE_TX)
 
 -- another height than this in a coinbase's payload
 abbrev pub other_height : ℕ → Result CbTx Departure → Option Refusal

@@ -13,7 +13,7 @@ use dmn_bytes::{Hash256, Memory, is_zero};
 use dmn_merkle::root;
 use dmn_payloads::{CbTx, PayloadFault, read_cb};
 use dmn_rows::{COLLATERAL_KEY, GREATEST_HEIGHT, MEMBERS_KEYS, Rule, Verdict, check, when};
-use dmn_tx::{COINBASE_TX, SPECIAL_VERSION, Tx, TxIn};
+use dmn_tx::Tx;
 use std::alloc::Global;
 use std::collections::BTreeSet;
 
@@ -117,29 +117,13 @@ fn id_rules(alloc: Global, block: &BlockFrame) -> Result<[Option<Refusal>; 2], M
     ])
 }
 
-fn is_null_input(input: &TxIn) -> bool
-    ensures { result ≡ table.is_null_input input.now }
-{
-    is_zero(&input.point.hash.0) && input.point.index == u32::MAX
-}
-
-#[tactic(auto, unfolding(crate::specs::Shape::is_coinbase))]
-fn is_coinbase(tx: &Tx) -> bool
-    ensures { result ≡ table.is_coinbase tx.now }
-{
-    match tx.inputs.as_slice() {
-        [input] => is_null_input(input),
-        _ => false,
-    }
-}
-
 #[tactic(auto, unfolding(crate::specs::Shape::begins_with_coinbase))]
 fn begins_with_coinbase(txs: &[Tx]) -> bool
     ensures { result ≡ table.begins_with_coinbase txs.now }
 {
     match txs.first() {
         None => false,
-        Some(tx) => is_coinbase(tx),
+        Some(tx) => tx.is_coinbase(),
     }
 }
 
@@ -150,7 +134,7 @@ fn second_coinbase(txs: &[Tx]) -> Option<u32>
     ensures { result ≡ table.least (length txs.now) (table.is_second_coinbase txs.now) }
 {
     for place in 1..txs.len() {
-        if is_coinbase(&txs[place]) {
+        if txs[place].is_coinbase() {
             return Some(place as u32);
         }
     }
@@ -211,13 +195,6 @@ fn verdict_form(block: &BlockFrame) -> Option<Refusal>
     Some(by_block(Rule::VerdictForm { position }))
 }
 
-#[tactic(auto, unfolding(crate::specs::Shape::is_cb_type))]
-fn is_cb_type(tx: &Tx) -> bool
-    ensures { result ≡ table.is_cb_type tx.now }
-{
-    tx.version == SPECIAL_VERSION && tx.kind == COINBASE_TX
-}
-
 fn is_next(height: u32, tip_height: u32) -> bool
     ensures { result ≡ (height == tip_height + 1) }
 {
@@ -237,7 +214,7 @@ fn judge_payload(alloc: Global, tx: &Tx, tip_height: u32) -> Result<CbTx, ShapeF
     ensures payload { IfOk result (λ value. cb.Fits value × (tx.now.payload ≡ cb.text value)) }
     ensures height { IfOk result (λ value. value.height ≡ tip_height + 1) }
 {
-    if !is_cb_type(tx) {
+    if !tx.is_cb_type() {
         return Err(by_first(Rule::CbPayload));
     }
     match read_cb(alloc, tx.payload.as_slice()) {

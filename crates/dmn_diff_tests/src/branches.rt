@@ -2,7 +2,7 @@ use dmn_bytes::{Bytes, Hash256, dsha, write};
 use dmn_merkle::{BranchFault, check_branch, coinbase_branch, root};
 use std::test::*;
 
-fn hash_of(digits: &str) -> Result<Hash256, Fail> {
+pub(crate) fn hash_of(digits: &str) -> Result<Hash256, Fail> {
     let mut bytes = [0; 32];
     hex::decode_to_slice(digits.as_bytes(), &mut bytes)
         .ok()

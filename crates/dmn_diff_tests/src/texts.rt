@@ -5,22 +5,22 @@ use std::test::*;
 // By another program: the diff from the empty list to that of block 2, whose transactions are its coinbase and one
 // registration. It is cut behind the two hashes, the total, the branch's hashes, its flags and the coinbase; then come
 // no deleted hash and one entry.
-const BLOCKS: &str =
+pub(crate) const BLOCKS: &str =
     "000000000000000000000000000000000000000000000000000000000000000002020202020202020202\
     02020202020202020202020202020202020202020202";
 
-const TOTAL: &str = "02000000";
+pub(crate) const TOTAL: &str = "02000000";
 
-const BRANCH: &str =
+pub(crate) const BRANCH: &str =
     "b9cb1b7cdd6702f83efd4dabae7d747f44e31f6e7f00654e11873c334fe91903f32b9a67373e1dd0073e\
     51108f8fa1068c79cd035ea2785de7b06f7156f5b563";
 
-const COINBASE: &str =
+pub(crate) const COINBASE: &str =
     "03000500010000000000000000000000000000000000000000000000000000000000000000ffffffff00\
     ffffffff000000000026010002000000ef765318dcb9c47cf5a70ad91ef3129a1e82187a6ac82ecc9d8a\
     3114ce75c4d3";
 
-const ENTRY: &str =
+pub(crate) const ENTRY: &str =
     "f32b9a67373e1dd0073e51108f8fa1068c79cd035ea2785de7b06f7156f5b56300000000000000000000\
     0000000000000000000000000000000000000000000000000000000000000000ffff0a0000014e1f4141\
     414141414141414141414141414141414141414141414141414141414141414141414141414141414141\
@@ -33,7 +33,7 @@ const EIGHTS: &str = "0808080808080808080808080808080808080808080808080808080808
 
 const NINES: &str = "0909090909090909090909090909090909090909090909090909090909090909";
 
-fn joined(rt: &HostRuntime, pieces: &[&str]) -> Result<Bytes, Fail> {
+pub(crate) fn joined(rt: &HostRuntime, pieces: &[&str]) -> Result<Bytes, Fail> {
     let mut text = Bytes::new(rt.alloc());
     for piece in pieces {
         let bytes = hex::decode(rt.alloc(), *piece).ok().ok_or("digits")?;
@@ -42,7 +42,7 @@ fn joined(rt: &HostRuntime, pieces: &[&str]) -> Result<Bytes, Fail> {
     Ok(text)
 }
 
-fn whole(rt: &HostRuntime) -> Result<Bytes, Fail> {
+pub(crate) fn whole(rt: &HostRuntime) -> Result<Bytes, Fail> {
     joined(
         rt,
         &[

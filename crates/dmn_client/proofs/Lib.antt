@@ -1,0 +1,10 @@
+pub mod Fits
+pub mod Judging
+pub mod Long
+pub mod Accepted
+pub mod SoundList
+pub mod Complete
+pub mod Simple
+pub mod Meet
+pub mod First
+pub mod Lists

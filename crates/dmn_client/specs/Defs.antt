@@ -1,0 +1,6 @@
+-- A light client. A reader begins here; the parts are:
+--   Headers    the headers that it has, and one more
+--   Coinbase   the root that a coinbase tells
+--   Step       what it holds, and what it holds after a diff
+--   Collision  what two different texts under one root come to
+--   Sound      what an accepted diff says of the client's list, and which diffs are accepted

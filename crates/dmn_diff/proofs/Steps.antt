@@ -1,8 +1,8 @@
 -- Steps of a walk over simplified lists.
-use Rattle.std.proofs.Common.{◌≡◌, ℕ, ◌+◌, ◌<◌, ◌≤◌, Bool, true, false, not, List, [], ◌∷◌, ◌++◌, length, get_or, drop, map, filter, find, refl, sym, ap, ◌∙◌, subst, zero, suc, arith}
-use Rattle.std.specs.Prelude.{◌==◌, Option, Some, None, is_some}
+use Rattle.std.proofs.Common.{◌≡◌, ℕ, ◌+◌, ◌<◌, ◌≤◌, Bool, true, false, not, List, [], ◌∷◌, ◌++◌, length, get_or, drop, map, filter, find, refl, sym, ap, ◌∙◌, subst, arith}
+use Rattle.std.specs.Prelude.{◌==◌, Option, Some, None, is_some, slice_get}
 use Rattle.std.specs.Cmp.{booleans_Decides}
-use Rattle.std.specs.List.{list_any, AllByRecursion}
+use Rattle.std.specs.List.{list_any}
 use Rattle.std.specs.declared.cmp.Ordering.{Ordering}
 use Rattle.std.specs.Str.{bytes_eq}
 use Rattle.std.proofs.lemmas.Bool.{and_parts, eqb-true}
@@ -24,8 +24,9 @@ use Rattle.dmn_bytes.specs.Format.{follows}
 use Rattle.dmn_diff.specs.Defs.{HashesAscend}
 use Rattle.dmn_diff.proofs.Found.{hash_key}
 use Rattle.dmn_diff.specs.Change.{same_entry, gone, fresh, delete_all, put_all, change_of, changed, is_told}
-use Rattle.dmn_diff.specs.Walk.{IsFront, IsStep, IsPast, Ahead, rest_of, chain}
+use Rattle.dmn_diff.specs.Walk.{IsFront, IsStep, Ahead, AreAbove, chain}
 use Rattle.dmn_diff.specs.declared.walk.Front.TheVariants.{Gone, New, Changed, Same}
+use Rattle.dmn_diff.specs.declared.apply.Step.{Step}
 use Rattle.dmn_diff.specs.declared.apply.Step.TheVariants as steps
 use Rattle.dmn_diff.proofs.Merge.{restores, fresh_found, gone_found, Ascends-puts, Ascends-deletes, Ascends-map, Ascends-drop, gone_lower, fresh_lower, gone_higher, fresh_higher, gone_equal, fresh_kept, fresh_changed, deletes_none, deletes_skip, deletes_drop, deletes_above, deletes_keep, puts_first, puts_above, puts_over}
 
@@ -60,188 +61,170 @@ deleted_by_look_up = gone_found hash_cmp hash_of has_hash entry_key same_entry s
 pub told_by_look_up : (base target : List SmlEntry) → IsAscending base → fresh base target ≡ filter (is_told base) target
 told_by_look_up = fresh_found hash_cmp hash_of has_hash entry_key same_entry same_entry-is
 
--- ---- fronts of lists that ascend
+-- ---- what is behind the first
 
-at_drop : (n : ℕ) (list : List SmlEntry) → IsAscending list → IsAscending (drop n list)
-at_drop = Ascends-drop hash_cmp hash_of has_hash entry_key same_entry same_entry-is
+pub still_ascends : (list rest : List SmlEntry) → rest ≡ drop 1 list → IsAscending list → IsAscending rest
+still_ascends list rest is asc = rw is (Ascends-drop hash_cmp hash_of has_hash entry_key same_entry same_entry-is 1 list asc)
 
--- an entry is below those behind it
-above_rest : (list : List SmlEntry) (i : ℕ) (x : SmlEntry) → IsAscending list → i < length list → IsAbove hash_cmp hash_of (get_or list i x).hash (drop (i + 1) list)
-above_rest list i x asc lt = (subst (λ (l : List SmlEntry). IsAscending l) (drop_more list i x lt) (at_drop i list asc)).0
+pub still_ascend : (hashes rest : List Hash256) → rest ≡ drop 1 hashes → HashesAscend hashes → HashesAscend rest
+still_ascend hashes rest is asc = rw is (Ascends-drop hash_cmp itself (λ hash h. same_hash h hash) hash_key same_hash same_hash-is 1 hashes asc)
 
--- a hash below an entry is below all from it on
-above_front : (hash : Hash256) (list : List SmlEntry) (i : ℕ) (x : SmlEntry) → IsAscending list → i < length list → hash_cmp hash (get_or list i x).hash ≡ Less → IsAbove hash_cmp hash_of hash (drop i list)
-above_front hash list i x asc lt less =
-    subst (λ (l : List SmlEntry). IsAbove hash_cmp hash_of hash l) (sym (drop_more list i x lt))
-    (less, above_lower hash_cmp hash_of has_hash entry_key hash (get_or list i x).hash (drop (i + 1) list) less (above_rest list i x asc lt))
-
--- none is left
-above_none : (hash : Hash256) (list : List SmlEntry) (i : ℕ) → length list ≤ i → IsAbove hash_cmp hash_of hash (drop i list)
-above_none hash list i le = subst (λ (l : List SmlEntry). IsAbove hash_cmp hash_of hash l) (sym (drop_all i list le)) tt
+-- ---- fronts of two lists
 
 pub turned : (a b : Hash256) → hash_cmp a b ≡ Greater → hash_cmp b a ≡ Less
 turned a b e = hash_cmp_total.antisymm b a ∙ ap ordering_reverse e
 
-pub front_gone : (old new : List SmlEntry) (i j : ℕ) (x : SmlEntry) → IsAscending old → i < length old → IsAbove hash_cmp hash_of (get_or old i x).hash (drop j new) → IsFront old i new j (Gone (get_or old i x).hash)
-front_gone old new i j x asc lt above =
-    let b : SmlEntry = get_or old i x in (
-      lt,
-      ap (λ (l : List SmlEntry). gone l (drop j new)) (drop_more old i x lt) ∙ gone_lower hash_cmp hash_of has_hash entry_key same_entry same_entry-is b (drop (i + 1) old) (drop j new) above,
-      ap (λ (l : List SmlEntry). fresh l (drop j new)) (drop_more old i x lt) ∙ fresh_lower hash_cmp hash_of has_hash entry_key same_entry same_entry-is b (drop (i + 1) old) (drop j new) above,
+-- a hash below the first entry is below all
+above_all : (hash : Hash256) (e : SmlEntry) (rest : List SmlEntry) → hash_cmp hash e.hash ≡ Less → IsAscending (e ∷ rest) → IsAbove hash_cmp hash_of hash (e ∷ rest)
+above_all hash e rest less asc = (less, above_lower hash_cmp hash_of has_hash entry_key hash e.hash rest less asc.0)
+
+abbrev IsFirst : {V : Type 0} → List V → V → Type 0
+IsFirst list v = Some v ≡ slice_get list 0
+
+pub front_less : (old new : List SmlEntry) (b t : SmlEntry) → IsFirst old b → IsFirst new t → IsAscending old → IsAscending new → hash_cmp b.hash t.hash ≡ Less → IsFront old new (Gone b.hash)
+front_less [] new b t f g p q less = absurd cc
+front_less (x ∷ old) [] b t f g p q less = absurd cc
+front_less (x ∷ old) (y ∷ new) b t f g p q less =
+    let b_is : b ≡ x = cc in
+    let t_is : t ≡ y = cc in
+    let above : IsAbove hash_cmp hash_of x.hash (y ∷ new) = above_all x.hash y new (rw (← b_is, ← t_is) less) q in
+    rw b_is ((omega arith), gone_lower hash_cmp hash_of has_hash entry_key same_entry same_entry-is x old (y ∷ new) above, fresh_lower hash_cmp hash_of has_hash entry_key same_entry same_entry-is x old (y ∷ new) above)
+
+pub front_greater : (old new : List SmlEntry) (b t : SmlEntry) → IsFirst old b → IsFirst new t → IsAscending old → IsAscending new → hash_cmp b.hash t.hash ≡ Greater → IsFront old new (New t)
+front_greater [] new b t f g p q more = absurd cc
+front_greater (x ∷ old) [] b t f g p q more = absurd cc
+front_greater (x ∷ old) (y ∷ new) b t f g p q more =
+    let b_is : b ≡ x = cc in
+    let t_is : t ≡ y = cc in
+    let above : IsAbove hash_cmp hash_of y.hash (x ∷ old) = above_all y.hash x old (turned x.hash y.hash (rw (← b_is, ← t_is) more)) p in
+    rw t_is ((omega arith), gone_higher hash_cmp hash_of has_hash entry_key same_entry same_entry-is y (x ∷ old) new above, fresh_higher hash_cmp hash_of has_hash entry_key same_entry same_entry-is y (x ∷ old) new above)
+
+pub front_same : (old new : List SmlEntry) (b t : SmlEntry) → IsFirst old b → IsFirst new t → IsAscending old → IsAscending new → hash_cmp b.hash t.hash ≡ Equal → same_entry t b ≡ true → IsFront old new Same
+front_same [] new b t f g p q o same = absurd cc
+front_same (x ∷ old) [] b t f g p q o same = absurd cc
+front_same (x ∷ old) (y ∷ new) b t f g p q o same =
+    let b_is : b ≡ x = cc in
+    let t_is : t ≡ y = cc in
+    let e : x.hash ≡ y.hash = hash_exact _ _ (rw (← b_is, ← t_is) o) in
+    let over : IsAbove hash_cmp hash_of x.hash new = subst (λ (h : Hash256). IsAbove hash_cmp hash_of h new) (sym e) q.0 in (
+      omega arith,
+      omega arith,
+      gone_equal hash_cmp hash_of has_hash entry_key same_entry same_entry-is x y old new e p.0,
+      fresh_kept hash_cmp hash_of has_hash entry_key same_entry same_entry-is x y old new (rw (← b_is, ← t_is) same) over,
     )
 
-pub front_new : (old new : List SmlEntry) (i j : ℕ) (x : SmlEntry) → IsAscending new → j < length new → IsAbove hash_cmp hash_of (get_or new j x).hash (drop i old) → IsFront old i new j (New (get_or new j x))
-front_new old new i j x asc lt above =
-    let t : SmlEntry = get_or new j x in (
-      lt,
-      ap (λ (l : List SmlEntry). gone (drop i old) l) (drop_more new j x lt) ∙ gone_higher hash_cmp hash_of has_hash entry_key same_entry same_entry-is t (drop i old) (drop (j + 1) new) above,
-      ap (λ (l : List SmlEntry). fresh (drop i old) l) (drop_more new j x lt) ∙ fresh_higher hash_cmp hash_of has_hash entry_key same_entry same_entry-is t (drop i old) (drop (j + 1) new) above,
+pub front_changed : (old new : List SmlEntry) (b t : SmlEntry) → IsFirst old b → IsFirst new t → IsAscending old → IsAscending new → hash_cmp b.hash t.hash ≡ Equal → same_entry t b ≡ false → IsFront old new (Changed t)
+front_changed [] new b t f g p q o other = absurd cc
+front_changed (x ∷ old) [] b t f g p q o other = absurd cc
+front_changed (x ∷ old) (y ∷ new) b t f g p q o other =
+    let b_is : b ≡ x = cc in
+    let t_is : t ≡ y = cc in
+    let e : x.hash ≡ y.hash = hash_exact _ _ (rw (← b_is, ← t_is) o) in
+    let over : IsAbove hash_cmp hash_of x.hash new = subst (λ (h : Hash256). IsAbove hash_cmp hash_of h new) (sym e) q.0 in
+    let back : IsAbove hash_cmp hash_of y.hash old = subst (λ (h : Hash256). IsAbove hash_cmp hash_of h old) e p.0 in
+    rw t_is (
+      omega arith,
+      omega arith,
+      gone_equal hash_cmp hash_of has_hash entry_key same_entry same_entry-is x y old new e p.0,
+      fresh_changed hash_cmp hash_of has_hash entry_key same_entry same_entry-is x y old new (rw (← b_is, ← t_is) other) back over,
     )
 
-pub front_less : (old new : List SmlEntry) (i j : ℕ) (x y : SmlEntry) → IsAscending old → IsAscending new → i < length old → j < length new → hash_cmp (get_or old i x).hash (get_or new j y).hash ≡ Less → IsFront old i new j (Gone (get_or old i x).hash)
-front_less old new i j x y p q lti ltj less = front_gone old new i j x p lti (above_front (get_or old i x).hash new j y q ltj less)
+-- ---- steps over a list and a change
 
-pub front_greater : (old new : List SmlEntry) (i j : ℕ) (x y : SmlEntry) → IsAscending old → IsAscending new → i < length old → j < length new → hash_cmp (get_or old i x).hash (get_or new j y).hash ≡ Greater → IsFront old i new j (New (get_or new j y))
-front_greater old new i j x y p q lti ltj e =
-    front_new old new i j y q ltj (above_front (get_or new j y).hash old i x p lti (turned (get_or old i x).hash (get_or new j y).hash e))
+abbrev IsEmpty : {V : Type 0} → List V → Type 0
+IsEmpty list = None ≡ slice_get list 0
 
--- both fronts have one hash
-equal_gone : (old new : List SmlEntry) (i j : ℕ) (x y : SmlEntry) → IsAscending old → i < length old → j < length new → (get_or old i x).hash ≡ (get_or new j y).hash → gone (drop i old) (drop j new) ≡ gone (drop (i + 1) old) (drop (j + 1) new)
-equal_gone old new i j x y p lti ltj e =
-    ap (λ (l : List SmlEntry). gone l (drop j new)) (drop_more old i x lti)
-    ∙ (ap (λ (l : List SmlEntry). gone (get_or old i x ∷ drop (i + 1) old) l) (drop_more new j y ltj)
-    ∙ gone_equal hash_cmp hash_of has_hash entry_key same_entry same_entry-is (get_or old i x) (get_or new j y) (drop (i + 1) old) (drop (j + 1) new) e (above_rest old i x p lti))
+pub step_done : (list : List SmlEntry) (deleted : List Hash256) (entries : List SmlEntry) → IsEmpty list → IsEmpty entries → IsStep list deleted entries steps.Done
+step_done [] deleted [] f g = deletes_none hash_cmp hash_of has_hash entry_key same_entry same_entry-is deleted
+step_done [] deleted (e ∷ entries) f g = absurd cc
+step_done (l ∷ list) deleted entries f g = absurd cc
 
-both_fronts : (old new : List SmlEntry) (i j : ℕ) (x y : SmlEntry) → i < length old → j < length new → fresh (drop i old) (drop j new) ≡ fresh (get_or old i x ∷ drop (i + 1) old) (get_or new j y ∷ drop (j + 1) new)
-both_fronts old new i j x y lti ltj =
-    ap (λ (l : List SmlEntry). fresh l (drop j new)) (drop_more old i x lti) ∙ ap (λ (l : List SmlEntry). fresh (get_or old i x ∷ drop (i + 1) old) l) (drop_more new j y ltj)
+-- no list, and one entry more
+pub step_put_end : (list : List SmlEntry) (deleted : List Hash256) (entries : List SmlEntry) (e : SmlEntry) → IsEmpty list → IsFirst entries e → IsAscending entries → IsStep list deleted entries (steps.Put e)
+step_put_end (l ∷ list) deleted entries e none f q = absurd cc
+step_put_end [] deleted [] e none f q = absurd cc
+step_put_end [] deleted (x ∷ entries) e none f q =
+    let is : e ≡ x = cc in
+    let gone : delete_all deleted [] ≡ [] = deletes_none hash_cmp hash_of has_hash entry_key same_entry same_entry-is deleted in
+    rw is ((omega arith), (rw gone (puts_first hash_cmp hash_of has_hash entry_key same_entry same_entry-is x entries [] q.0 tt)))
 
-pub front_same : (old new : List SmlEntry) (i j : ℕ) (x y : SmlEntry) → IsAscending old → IsAscending new → i < length old → j < length new → hash_cmp (get_or old i x).hash (get_or new j y).hash ≡ Equal → same_entry (get_or new j y) (get_or old i x) ≡ true → IsFront old i new j Same
-front_same old new i j x y p q lti ltj o same =
-    let e : (get_or old i x).hash ≡ (get_or new j y).hash = hash_exact _ _ o in
-    let over : IsAbove hash_cmp hash_of (get_or old i x).hash (drop (j + 1) new) = subst (λ (h : Hash256). IsAbove hash_cmp hash_of h (drop (j + 1) new)) (sym e) (above_rest new j y q ltj) in (
-      lti,
-      ltj,
-      equal_gone old new i j x y p lti ltj e,
-      both_fronts old new i j x y lti ltj ∙ fresh_kept hash_cmp hash_of has_hash entry_key same_entry same_entry-is (get_or old i x) (get_or new j y) (drop (i + 1) old) (drop (j + 1) new) same over,
+pub step_skip : (list : List SmlEntry) (deleted : List Hash256) (entries : List SmlEntry) (l : SmlEntry) → IsFirst list l → IsAscending list → Ahead deleted l.hash Less → IsStep list deleted entries steps.Skip
+step_skip [] deleted entries l f p ahead = absurd cc
+step_skip (x ∷ list) [] entries l f p ahead = absurd ahead
+step_skip (x ∷ list) (h ∷ deleted) entries l f p less =
+    let is : l ≡ x = cc in
+    ((omega arith), (ap (put_all entries) (deletes_skip hash_cmp hash_of has_hash entry_key same_entry same_entry-is h deleted (x ∷ list) (above_all h x list (rw (← is) less) p))))
+
+pub step_drop : (list : List SmlEntry) (deleted : List Hash256) (entries : List SmlEntry) (l : SmlEntry) → IsFirst list l → IsAscending list → Ahead deleted l.hash Equal → IsStep list deleted entries steps.Drop
+step_drop [] deleted entries l f p ahead = absurd cc
+step_drop (x ∷ list) [] entries l f p ahead = absurd ahead
+step_drop (x ∷ list) (h ∷ deleted) entries l f p e =
+    let is : l ≡ x = cc in
+    let same : h ≡ x.hash = e ∙ ap hash_of is in
+    let above : IsAbove hash_cmp hash_of h list = subst (λ (k : Hash256). IsAbove hash_cmp hash_of k list) (sym same) p.0 in (
+      omega arith,
+      ap (put_all entries) (deletes_drop hash_cmp hash_of has_hash entry_key same_entry same_entry-is x h deleted list (same_hash-from x.hash h (sym same)) above ∙ sym (deletes_skip hash_cmp hash_of has_hash entry_key same_entry same_entry-is h deleted list above)),
     )
 
-pub front_changed : (old new : List SmlEntry) (i j : ℕ) (x y : SmlEntry) → IsAscending old → IsAscending new → i < length old → j < length new → hash_cmp (get_or old i x).hash (get_or new j y).hash ≡ Equal → same_entry (get_or new j y) (get_or old i x) ≡ false → IsFront old i new j (Changed (get_or new j y))
-front_changed old new i j x y p q lti ltj o other =
-    let e : (get_or old i x).hash ≡ (get_or new j y).hash = hash_exact _ _ o in
-    let over : IsAbove hash_cmp hash_of (get_or old i x).hash (drop (j + 1) new) = subst (λ (h : Hash256). IsAbove hash_cmp hash_of h (drop (j + 1) new)) (sym e) (above_rest new j y q ltj) in
-    let back : IsAbove hash_cmp hash_of (get_or new j y).hash (drop (i + 1) old) = subst (λ (h : Hash256). IsAbove hash_cmp hash_of h (drop (i + 1) old)) e (above_rest old i x p lti) in (
-      lti,
-      ltj,
-      equal_gone old new i j x y p lti ltj e,
-      both_fronts old new i j x y lti ltj ∙ fresh_changed hash_cmp hash_of has_hash entry_key same_entry same_entry-is (get_or old i x) (get_or new j y) (drop (i + 1) old) (drop (j + 1) new) other back over,
+-- the front of the list is below all deleted hashes
+past : (l : SmlEntry) (rest : List SmlEntry) (deleted : List Hash256) → AreAbove l.hash deleted → delete_all deleted (l ∷ rest) ≡ l ∷ delete_all deleted rest
+past l rest deleted above = deletes_above hash_cmp hash_of has_hash entry_key same_entry same_entry-is l deleted rest above
+
+pub step_keep_end : (l : SmlEntry) (rest : List SmlEntry) (deleted : List Hash256) → AreAbove l.hash deleted → IsStep (l ∷ rest) deleted [] (steps.Keep l)
+step_keep_end l rest deleted above = ((omega arith), past l rest deleted above)
+
+pub step_keep : (l : SmlEntry) (rest : List SmlEntry) (deleted : List Hash256) (entries : List SmlEntry) (e : SmlEntry) → IsFirst entries e → IsAscending entries → AreAbove l.hash deleted → hash_cmp e.hash l.hash ≡ Greater → IsStep (l ∷ rest) deleted entries (steps.Keep l)
+step_keep l rest deleted [] e f q above more = absurd cc
+step_keep l rest deleted (x ∷ entries) e f q above more =
+    let is : e ≡ x = cc in
+    let over : IsAbove hash_cmp hash_of l.hash (x ∷ entries) = above_all l.hash x entries (turned x.hash l.hash (rw (← is) more)) q in
+    ((omega arith), (ap (put_all (x ∷ entries)) (past l rest deleted above) ∙ puts_above hash_cmp hash_of has_hash entry_key same_entry same_entry-is l (x ∷ entries) (delete_all deleted rest) over))
+
+pub step_put : (l : SmlEntry) (rest : List SmlEntry) (deleted : List Hash256) (entries : List SmlEntry) (e : SmlEntry) → IsFirst entries e → IsAscending entries → IsAscending (l ∷ rest) → hash_cmp e.hash l.hash ≡ Less → IsStep (l ∷ rest) deleted entries (steps.Put e)
+step_put l rest deleted [] e f q p less = absurd cc
+step_put l rest deleted (x ∷ entries) e f q p less =
+    let is : e ≡ x = cc in
+    let above : IsAbove hash_cmp hash_of x.hash (l ∷ rest) = above_all x.hash l rest (rw (← is) less) p in
+    rw is ((omega arith), (puts_first hash_cmp hash_of has_hash entry_key same_entry same_entry-is x entries (delete_all deleted (l ∷ rest)) q.0 (deletes_keep hash_cmp hash_of has_hash entry_key same_entry same_entry-is x.hash deleted (l ∷ rest) above)))
+
+pub step_replace : (l : SmlEntry) (rest : List SmlEntry) (deleted : List Hash256) (entries : List SmlEntry) (e : SmlEntry) → IsFirst entries e → IsAscending entries → IsAscending (l ∷ rest) → AreAbove l.hash deleted → hash_cmp e.hash l.hash ≡ Equal → IsStep (l ∷ rest) deleted entries (steps.Replace e)
+step_replace l rest deleted [] e f q p above o = absurd cc
+step_replace l rest deleted (x ∷ entries) e f q p above o =
+    let is : e ≡ x = cc in
+    let same : x.hash ≡ l.hash = hash_exact _ _ (rw (← is) o) in
+    let over : IsAbove hash_cmp hash_of x.hash rest = subst (λ (h : Hash256). IsAbove hash_cmp hash_of h rest) (sym same) p.0 in
+    rw is (
+      omega arith,
+      omega arith,
+      ap (put_all (x ∷ entries)) (past l rest deleted above)
+          ∙ puts_over hash_cmp hash_of has_hash entry_key same_entry same_entry-is x l entries (delete_all deleted rest) (same_hash-from l.hash x.hash (sym same)) q.0
+          (deletes_keep hash_cmp hash_of has_hash entry_key same_entry same_entry-is x.hash deleted rest over),
     )
 
--- ---- steps past a list and a change
+-- the list's front, where it isn't deleted
+pub step_front : (list : List SmlEntry) (deleted : List Hash256) (entries : List SmlEntry) (l : SmlEntry) (step : Step) → IsFirst list l → IsAscending list → Ahead deleted l.hash Greater
+    → ((rest : List SmlEntry) (gone : List Hash256) → IsAscending (l ∷ rest) → AreAbove l.hash gone → IsStep (l ∷ rest) gone entries step) → IsStep list deleted entries step
+step_front [] deleted entries l step f p above goes = absurd cc
+step_front (x ∷ list) deleted entries l step f p above goes =
+    let is : x ≡ l = cc in
+    subst (λ (v : SmlEntry). IsStep (v ∷ list) deleted entries step) (sym is) (goes list deleted (subst (λ (v : SmlEntry). IsAscending (v ∷ list)) is p) above)
 
-pub step_done : (list : List SmlEntry) (i : ℕ) (deleted : List Hash256) (d : ℕ) (entries : List SmlEntry) (k : ℕ) → length list ≤ i → length entries ≤ k → rest_of list i deleted d entries k ≡ []
-step_done list i deleted d entries k le lk =
-    ap (λ (l : List SmlEntry). put_all l (delete_all (drop d deleted) (drop i list))) (drop_all k entries lk)
-    ∙ (ap (delete_all (drop d deleted)) (drop_all i list le) ∙ deletes_none hash_cmp hash_of has_hash entry_key same_entry same_entry-is (drop d deleted))
-
--- an entry is put that is below what is left of the list
-put_here : (list : List SmlEntry) (i : ℕ) (deleted : List Hash256) (d : ℕ) (entries : List SmlEntry) (k : ℕ) (x : SmlEntry) → IsAscending entries → k < length entries → IsAbove hash_cmp hash_of (get_or entries k x).hash (drop i list)
-    → IsStep list i deleted d entries k (steps.Put (get_or entries k x))
-put_here list i deleted d entries k x asc lt above =
-    let e : SmlEntry = get_or entries k x in
-    let rest : List SmlEntry = delete_all (drop d deleted) (drop i list) in (
-      lt,
-      ap (λ (l : List SmlEntry). put_all l rest) (drop_more entries k x lt)
-          ∙ puts_first hash_cmp hash_of has_hash entry_key same_entry same_entry-is e (drop (k + 1) entries) rest (above_rest entries k x asc lt) (deletes_keep hash_cmp hash_of has_hash entry_key same_entry same_entry-is e.hash (drop d deleted) (drop i list) above),
-    )
-
-pub step_put_end : (list : List SmlEntry) (i : ℕ) (deleted : List Hash256) (d : ℕ) (entries : List SmlEntry) (k : ℕ) (x : SmlEntry) → IsAscending entries → k < length entries → length list ≤ i
-    → IsStep list i deleted d entries k (steps.Put (get_or entries k x))
-step_put_end list i deleted d entries k x asc lt le = put_here list i deleted d entries k x asc lt (above_none (get_or entries k x).hash list i le)
-
-pub step_put : (list : List SmlEntry) (i : ℕ) (deleted : List Hash256) (d : ℕ) (entries : List SmlEntry) (k : ℕ) (x y : SmlEntry) → IsAscending list → IsAscending entries → i < length list → k < length entries
-    → hash_cmp (get_or entries k x).hash (get_or list i y).hash ≡ Less → IsStep list i deleted d entries k (steps.Put (get_or entries k x))
-step_put list i deleted d entries k x y p q lti ltk less = put_here list i deleted d entries k x q ltk (above_front (get_or entries k x).hash list i y p lti less)
-
-pub step_skip : (list : List SmlEntry) (i : ℕ) (deleted : List Hash256) (d : ℕ) (entries : List SmlEntry) (k : ℕ) (x : SmlEntry) → IsAscending list → i < length list → Ahead deleted d (get_or list i x).hash Less → IsStep list i deleted d entries k steps.Skip
-step_skip list i deleted d entries k x asc lt (ltd, h, is, less) = (
-  ltd,
-  ap (λ (ks : List Hash256). put_all (drop k entries) (delete_all ks (drop i list))) is
-      ∙ ap (put_all (drop k entries)) (deletes_skip hash_cmp hash_of has_hash entry_key same_entry same_entry-is h (drop (d + 1) deleted) (drop i list) (above_front h list i x asc lt less)),
-)
-
-pub step_drop : (list : List SmlEntry) (i : ℕ) (deleted : List Hash256) (d : ℕ) (entries : List SmlEntry) (k : ℕ) (x : SmlEntry) → IsAscending list → i < length list → Ahead deleted d (get_or list i x).hash Equal → IsStep list i deleted d entries k steps.Drop
-step_drop list i deleted d entries k x asc lt (ltd, is) =
-    let l : SmlEntry = get_or list i x in
-    let more : List SmlEntry = drop (i + 1) list in
-    let ks : List Hash256 = drop (d + 1) deleted in
-    let above : IsAbove hash_cmp hash_of l.hash more = above_rest list i x asc lt in (
-      lt,
-      ap (λ (hs : List Hash256). put_all (drop k entries) (delete_all hs (drop i list))) is
-          ∙ (ap (λ (es : List SmlEntry). put_all (drop k entries) (delete_all (l.hash ∷ ks) es)) (drop_more list i x lt)
-          ∙ (ap (put_all (drop k entries)) (deletes_drop hash_cmp hash_of has_hash entry_key same_entry same_entry-is l l.hash ks more (same_hash-from l.hash l.hash refl) above)
-          ∙ (ap (put_all (drop k entries)) (sym (deletes_skip hash_cmp hash_of has_hash entry_key same_entry same_entry-is l.hash ks more above))
-          ∙ ap (λ (hs : List Hash256). put_all (drop k entries) (delete_all hs more)) (sym is)))),
-    )
-
--- the list's front isn't deleted
-past_front : (list : List SmlEntry) (i : ℕ) (deleted : List Hash256) (d : ℕ) (x : SmlEntry) → i < length list → IsPast deleted d list i → delete_all (drop d deleted) (drop i list) ≡ get_or list i x ∷ delete_all (drop d deleted) (drop (i + 1) list)
-past_front list i deleted d x lt past =
-    ap (delete_all (drop d deleted)) (drop_more list i x lt) ∙ deletes_above hash_cmp hash_of has_hash entry_key same_entry same_entry-is (get_or list i x) (drop d deleted) (drop (i + 1) list) (past x)
-
-keep_here : (list : List SmlEntry) (i : ℕ) (deleted : List Hash256) (d : ℕ) (entries : List SmlEntry) (k : ℕ) (x : SmlEntry) → i < length list → IsPast deleted d list i → IsAbove hash_cmp hash_of (get_or list i x).hash (drop k entries)
-    → IsStep list i deleted d entries k (steps.Keep (get_or list i x))
-keep_here list i deleted d entries k x lt past above = (
-  lt,
-  ap (put_all (drop k entries)) (past_front list i deleted d x lt past)
-      ∙ puts_above hash_cmp hash_of has_hash entry_key same_entry same_entry-is (get_or list i x) (drop k entries) (delete_all (drop d deleted) (drop (i + 1) list)) above,
-)
-
-pub step_keep_end : (list : List SmlEntry) (i : ℕ) (deleted : List Hash256) (d : ℕ) (entries : List SmlEntry) (k : ℕ) (x : SmlEntry) → i < length list → IsPast deleted d list i → length entries ≤ k → IsStep list i deleted d entries k (steps.Keep (get_or list i x))
-step_keep_end list i deleted d entries k x lt past le = keep_here list i deleted d entries k x lt past (above_none (get_or list i x).hash entries k le)
-
-pub step_keep : (list : List SmlEntry) (i : ℕ) (deleted : List Hash256) (d : ℕ) (entries : List SmlEntry) (k : ℕ) (x y : SmlEntry) → IsAscending entries → i < length list → k < length entries → IsPast deleted d list i
-    → hash_cmp (get_or entries k y).hash (get_or list i x).hash ≡ Greater → IsStep list i deleted d entries k (steps.Keep (get_or list i x))
-step_keep list i deleted d entries k x y q lti ltk past e =
-    keep_here list i deleted d entries k x lti past (above_front (get_or list i x).hash entries k y q ltk (turned (get_or entries k y).hash (get_or list i x).hash e))
-
-pub step_replace : (list : List SmlEntry) (i : ℕ) (deleted : List Hash256) (d : ℕ) (entries : List SmlEntry) (k : ℕ) (x y : SmlEntry) → IsAscending list → IsAscending entries → i < length list → k < length entries → IsPast deleted d list i
-    → hash_cmp (get_or entries k y).hash (get_or list i x).hash ≡ Equal → IsStep list i deleted d entries k (steps.Replace (get_or entries k y))
-step_replace list i deleted d entries k x y p q lti ltk past o =
-    let l : SmlEntry = get_or list i x in
-    let e : SmlEntry = get_or entries k y in
-    let same : e.hash ≡ l.hash = hash_exact _ _ o in
-    let more : List SmlEntry = delete_all (drop d deleted) (drop (i + 1) list) in
-    let over : IsAbove hash_cmp hash_of e.hash (drop (i + 1) list) = subst (λ (h : Hash256). IsAbove hash_cmp hash_of h (drop (i + 1) list)) (sym same) (above_rest list i x p lti) in (
-      lti,
-      ltk,
-      ap (put_all (drop k entries)) (past_front list i deleted d x lti past)
-          ∙ (ap (λ (es : List SmlEntry). put_all es (l ∷ more)) (drop_more entries k y ltk)
-          ∙ puts_over hash_cmp hash_of has_hash entry_key same_entry same_entry-is e l (drop (k + 1) entries) more (same_hash-from l.hash e.hash (sym same)) (above_rest entries k y q ltk)
-          (deletes_keep hash_cmp hash_of has_hash entry_key same_entry same_entry-is e.hash (drop d deleted) (drop (i + 1) list) over)),
-    )
+pub step_keep_none : (l : SmlEntry) (rest : List SmlEntry) (deleted : List Hash256) (entries : List SmlEntry) → IsEmpty entries → AreAbove l.hash deleted → IsStep (l ∷ rest) deleted entries (steps.Keep l)
+step_keep_none l rest deleted [] none above = step_keep_end l rest deleted above
+step_keep_none l rest deleted (e ∷ entries) none above = absurd cc
 
 -- ---- deleted hashes ahead
 
-ahead_by : (deleted : List Hash256) (d : ℕ) (hash x : Hash256) (o : Ordering) → HashesAscend deleted → d < length deleted → hash_cmp (get_or deleted d x) hash ≡ o → Ahead deleted d hash o
-ahead_by deleted d hash x Less asc lt e = (lt, get_or deleted d x, drop_more deleted d x lt, e)
-ahead_by deleted d hash x Equal asc lt e = (lt, drop_more deleted d x lt ∙ ap (λ (h : Hash256). h ∷ drop (d + 1) deleted) (hash_exact (get_or deleted d x) hash e))
-ahead_by deleted d hash x Greater asc lt e =
-    let less : hash_cmp hash (get_or deleted d x) ≡ Less = turned (get_or deleted d x) hash e in
-    let rest : IsAbove hash_cmp itself (get_or deleted d x) (drop (d + 1) deleted)
-    = (subst (λ (l : List Hash256). HashesAscend l) (drop_more deleted d x lt) (Ascends-drop hash_cmp itself (λ hash h. same_hash h hash) hash_key same_hash same_hash-is d deleted asc)).0 in
-    subst (λ (l : List Hash256). IsAbove hash_cmp itself hash l) (sym (drop_more deleted d x lt)) (less, above_lower hash_cmp itself (λ hash h. same_hash h hash) hash_key hash (get_or deleted d x) (drop (d + 1) deleted) less rest)
-
-pub ahead : (deleted : List Hash256) (d : ℕ) (hash x : Hash256) (o : Ordering) → HashesAscend deleted → d < length deleted → o ≡ hash_cmp (get_or deleted d x) hash → Ahead deleted d hash o
-ahead deleted d hash x o asc lt e = ahead_by deleted d hash x o asc lt (sym e)
-
-pub one_default : {V : Type 0} (list : List V) (i : ℕ) (x y : V) → i < length list → get_or list i x ≡ get_or list i y
-one_default [] i x y lt = absurd (omega arith)
-one_default (v ∷ list) zero x y lt = refl
-one_default (v ∷ list) (suc i) x y lt = one_default list i x y (omega arith)
-
-pub past : (list : List SmlEntry) (i : ℕ) (deleted : List Hash256) (d : ℕ) (x : SmlEntry) → i < length list → Ahead deleted d (get_or list i x).hash Greater → IsPast deleted d list i
-past list i deleted d x lt above = λ e. subst (λ (v : SmlEntry). AllByRecursion (λ h. hash_cmp v.hash h ≡ Less) (drop d deleted)) (one_default list i x e lt) above
+pub ahead : (deleted : List Hash256) (hash h : Hash256) (o : Ordering) → IsFirst deleted h → HashesAscend deleted → hash_cmp h hash ≡ o → Ahead deleted hash o
+ahead [] hash h o f asc e = absurd cc
+ahead (x ∷ deleted) hash h Less f asc e =
+    let is : h ≡ x = cc in rw (← is) e
+ahead (x ∷ deleted) hash h Equal f asc e =
+    let is : h ≡ x = cc in sym is ∙ hash_exact h hash e
+ahead (x ∷ deleted) hash h Greater f asc e =
+    let is : h ≡ x = cc in
+    let less : hash_cmp hash x ≡ Less = turned x hash (rw (← is) e) in
+    (less, above_lower hash_cmp itself (λ hash h. same_hash h hash) hash_key hash x deleted less asc.0)
 
 -- ---- lists whose neighbours ascend
 

@@ -1,5 +1,6 @@
 //! One step of a walk over two lists.
 
+ghost use Rattle.std.specs.Prelude.{◌≡◌, ◌<◌, length, drop};
 ghost use Rattle.dmn_sml.specs.Defs.{IsAscending};
 ghost use Rattle.dmn_diff.specs.Walk.{IsFront};
 
@@ -22,30 +23,34 @@ pub(crate) enum Front {
     Done,
 }
 
-/// What is in front of the old list, behind i entries, and of the new one, behind j.
-pub(crate) fn look_ahead(old: &[SmlEntry], i: usize, new: &[SmlEntry], j: usize) -> Front
+/// What is in front of the old list and of the new one.
+pub(crate) fn look_ahead(old: &[SmlEntry], new: &[SmlEntry]) -> Front
     requires old { IsAscending old.now }
     requires new { IsAscending new.now }
-    ensures { IsFront old.now i new.now j result }
+    ensures { IsFront old.now new.now result }
 {
-    if i >= old.len() {
-        if j >= new.len() {
-            return Front::Done;
-        }
-        return Front::New(new[j]);
-    }
-    if j >= new.len() {
-        return Front::Gone(old[i].hash);
-    }
-    match old[i].hash.cmp(&new[j].hash) {
-        Ordering::Less => Front::Gone(old[i].hash),
-        Ordering::Greater => Front::New(new[j]),
-        Ordering::Equal => {
-            if new[j] == old[i] {
-                Front::Same
-            } else {
-                Front::Changed(new[j])
+    match (old.first(), new.first()) {
+        (None, None) => Front::Done,
+        (None, Some(entry)) => Front::New(*entry),
+        (Some(entry), None) => Front::Gone(entry.hash),
+        (Some(before), Some(entry)) => match before.hash.cmp(&entry.hash) {
+            Ordering::Less => Front::Gone(before.hash),
+            Ordering::Greater => Front::New(*entry),
+            Ordering::Equal => {
+                if entry == before {
+                    Front::Same
+                } else {
+                    Front::Changed(*entry)
+                }
             }
-        }
+        },
     }
+}
+
+/// All but the first.
+pub(crate) fn behind<T>(items: &[T]) -> &[T]
+    requires { 0 < length items.now }
+    ensures { result.now ≡ drop 1 items.now }
+{
+    &items[1..]
 }

@@ -1,5 +1,6 @@
 -- What changes between two simplified lists, and the message that tells it (DIP-0004). A reader begins here; the parts are:
 --   Change   what is gone and what is new from one list to another, and a list after a change
+--   Rows     the same change, between the simplified lists of rows
 --   Diff     the table of a diff's fields
 --   Fault    what a fault of a diff says of its text
 --   Fitting  which diffs have a text, field by field

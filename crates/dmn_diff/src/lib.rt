@@ -14,5 +14,5 @@ pub use apply::apply_change;
 pub use change::{ListChange, diff_of};
 pub use diff::Diff;
 pub use fault::DiffFault;
-pub use law::{changes_by_look_ups, restored_by_its_change, texts_of_diffs};
+pub use law::{changes_by_look_ups, changes_of_rows, restored_by_its_change, texts_of_diffs};
 pub use message::{one_text, read_diff, write_diff};

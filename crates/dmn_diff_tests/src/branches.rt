@@ -1,4 +1,4 @@
-use dmn_bytes::{Bytes, Hash256, dsha, write};
+use dmn_bytes::{Bytes, Hash256, dsha, dsha2, write};
 use dmn_merkle::{BranchFault, check_branch, coinbase_branch, root};
 use std::test::*;
 
@@ -58,34 +58,22 @@ fn faults_of_a_branch(rt: HostRuntime) -> Result<(), Fail> {
     let (first, second, third) = (dsha(&[1, 0]), dsha(&[2, 0]), dsha(&[3, 0]));
     let branch = coinbase_branch(rt.alloc(), &[first, second, third])
         .ok()
-        .ok_or("memory")?;
-    let hashes = branch.hashes.as_slice();
-    let root = root(rt.alloc(), &[first, second, third])
+        .ok_or("memory")?
+        .copy(rt.alloc())
         .ok()
         .ok_or("memory")?;
+    let hashes = branch.hashes.as_slice();
+    let cases: [(u32, &[Hash256], &[u8], Hash256, BranchFault); 5] = [
+        (0, hashes, &[15], second, BranchFault::TotalZero),
+        (3, &[first], &[15], second, BranchFault::HashCount),
+        (3, hashes, &[15], second, BranchFault::Flags),
+        (3, hashes, &[7, 0], first, BranchFault::Flags),
+        (3, hashes, &[7], second, BranchFault::Leaf),
+    ];
+    for (total, hashes, flags, id, fault) in cases {
+        assert_eq!(rt; check_branch(total, hashes, flags, &id), Err(fault));
+    }
+    let root = dsha2(&dsha2(&first, &second), &dsha2(&third, &third));
     assert_eq!(rt; check_branch(3, hashes, &[7], &first), Ok(root));
-    assert_eq!(rt;
-        check_branch(0, hashes, &[15], &second),
-        Err(BranchFault::TotalZero)
-    );
-    assert_eq!(rt;
-        check_branch(3, &[first], &[15], &second),
-        Err(BranchFault::HashCount)
-    );
-    assert_eq!(rt;
-        check_branch(3, hashes, &[15], &second),
-        Err(BranchFault::Flags)
-    );
-    assert_eq!(rt;
-        check_branch(3, hashes, &[7, 0], &first),
-        Err(BranchFault::Flags)
-    );
-    assert_eq!(rt;
-        check_branch(3, hashes, &[7], &second),
-        Err(BranchFault::Leaf)
-    );
-    let copy = branch.copy(rt.alloc()).ok().ok_or("memory")?;
-    assert_eq!(rt; copy.hashes.as_slice(), hashes);
-    assert_eq!(rt; copy.flags.as_slice(), branch.flags.as_slice());
     Ok(())
 }

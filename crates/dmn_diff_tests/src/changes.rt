@@ -25,25 +25,33 @@ fn list(rt: &HostRuntime, entries: &[SmlEntry]) -> Result<SmlList, Fail> {
     Ok(list)
 }
 
-fn applied(rt: &HostRuntime, base: &SmlList, change: &ListChange) -> Result<SmlList, Fail> {
-    Ok(apply_change(rt.alloc(), base, change).ok().ok_or("memory")?)
+// Whether this is what changes between two lists, and leads from the one to the other.
+fn changes(
+    rt: &HostRuntime,
+    [base, target]: [&[SmlEntry]; 2],
+    deleted: &[Hash256],
+    entries: &[SmlEntry],
+) -> Result<bool, Fail> {
+    let (base, target) = (list(rt, base)?, list(rt, target)?);
+    let change = diff_of(rt.alloc(), &base, &target).ok().ok_or("memory")?;
+    let found = apply_change(rt.alloc(), &base, &change)
+        .ok()
+        .ok_or("memory")?;
+    Ok(
+        change.deleted.as_slice() == deleted
+            && change.entries.as_slice() == entries
+            && found.entries() == target.entries(),
+    )
 }
 
 #[test]
 fn changes_between_lists(rt: HostRuntime) -> Result<(), Fail> {
     let (one, two, four) = (entry(1, 1), entry(2, 2), entry(4, 4));
-    let (three, five, other_two) = (entry(3, 3), entry(5, 5), entry(2, 9));
-    let base = list(&rt, &[one, two, four])?;
-    let target = list(&rt, &[two, three, four, five])?;
-    let change = diff_of(rt.alloc(), &base, &target).ok().ok_or("memory")?;
-    assert_eq!(rt; change.deleted.as_slice(), [one.hash].as_slice());
-    assert_eq!(rt; change.entries.as_slice(), [three, five].as_slice());
-    assert_eq!(rt; applied(&rt, &base, &change)?.entries(), target.entries());
-    let target = list(&rt, &[one, other_two, four])?;
-    let change = diff_of(rt.alloc(), &base, &target).ok().ok_or("memory")?;
-    assert!(rt; change.deleted.is_empty());
-    assert_eq!(rt; change.entries.as_slice(), [other_two].as_slice());
-    assert_eq!(rt; applied(&rt, &base, &change)?.entries(), target.entries());
+    let (three, five, other) = (entry(3, 3), entry(5, 5), entry(2, 9));
+    let lists: [&[SmlEntry]; 2] = [&[one, two, four], &[two, three, four, five]];
+    assert!(rt; changes(&rt, lists, &[one.hash], &[three, five])?);
+    let lists: [&[SmlEntry]; 2] = [&[one, two, four], &[one, other, four]];
+    assert!(rt; changes(&rt, lists, &[], &[other])?);
     Ok(())
 }
 
@@ -61,7 +69,10 @@ fn change_in_any_order(rt: HostRuntime) -> Result<(), Fail> {
         deleted: Items::from_vec(deleted),
         entries: Items::from_vec(entries),
     };
-    let found = applied(&rt, &list(&rt, &[two])?, &change)?;
+    let base = list(&rt, &[two])?;
+    let found = apply_change(rt.alloc(), &base, &change)
+        .ok()
+        .ok_or("memory")?;
     assert_eq!(rt; found.entries(), [one, three].as_slice());
     Ok(())
 }

@@ -6,6 +6,8 @@ use std::test::*;
 
 const BLOCK: Hash256 = Hash256([2; 32]);
 
+const TWOS: &str = "0202020202020202020202020202020202020202020202020202020202020202";
+
 const ZERO: Hash256 = Hash256([0; 32]);
 
 // A client with the header of block 2, and the root of that block's transactions by another program.
@@ -50,39 +52,35 @@ fn told(answer: &Result<Applied, ClientFault>, out: &mut Bytes) -> Result<(), Me
     }
 }
 
+// A diff, and the same again; the one from block 2 to itself, in which nothing changes; and one from another block.
 #[test]
 fn diffs_one_behind_the_other(rt: HostRuntime) -> Result<(), Fail> {
     let text = whole(&rt)?;
-    let mut client = with_header(&rt)?;
-    assert_eq!(rt; client.held(), ZERO);
-    let root = hash_of("ef765318dcb9c47cf5a70ad91ef3129a1e82187a6ac82ecc9d8a3114ce75c4d3")?;
-    let applied = Applied {
-        held: BLOCK,
-        root,
-        count: 1,
-    };
-    assert_eq!(rt; client.apply(text.as_slice()), Ok(applied));
-    assert_eq!(rt; client.held(), BLOCK);
-    assert_eq!(rt; client.apply(text.as_slice()), Ok(applied));
-    assert_eq!(rt; client.list().entries().len(), 1);
-    // From block 2 to itself nothing changes.
-    let blocks = "0202020202020202020202020202020202020202020202020202020202020202";
     let same = joined(
         &rt,
-        &[
-            blocks, blocks, TOTAL, "02", BRANCH, "0103", COINBASE, "0000",
-        ],
+        &[TWOS, TWOS, TOTAL, "02", BRANCH, "0103", COINBASE, "0000"],
     )?;
-    assert_eq!(rt; same.len(), 227);
-    assert_eq!(rt; client.apply(same.as_slice()), Ok(applied));
     let other = turned(&rt, text.as_slice(), 0)?;
+    let applied = Applied {
+        held: BLOCK,
+        root: hash_of("ef765318dcb9c47cf5a70ad91ef3129a1e82187a6ac82ecc9d8a3114ce75c4d3")?,
+        count: 1,
+    };
     let wrong = ClientFault::WrongBase { held: BLOCK };
-    assert_eq!(rt; client.apply(other.as_slice()), Err(wrong));
-    assert_eq!(rt; client.list().entries().len(), 1);
+    let cases: [(&[u8], Result<Applied, ClientFault>); 4] = [
+        (text.as_slice(), Ok(applied)),
+        (text.as_slice(), Ok(applied)),
+        (same.as_slice(), Ok(applied)),
+        (other.as_slice(), Err(wrong)),
+    ];
+    let mut client = with_header(&rt)?;
+    for (text, want) in cases {
+        assert_eq!(rt; client.apply(text), want);
+        assert_eq!(rt; client.list().entries().len(), 1);
+    }
     let mut stranger = Client::new(rt.alloc());
     let unknown = Err(ClientFault::UnknownHeader);
     assert_eq!(rt; stranger.apply(text.as_slice()), unknown);
-    assert_eq!(rt; stranger.held(), ZERO);
     Ok(())
 }
 
@@ -103,13 +101,12 @@ fn each_byte_changed(rt: HostRuntime) -> Result<(), Fail> {
     Ok(())
 }
 
+// A header that is there, with its root and with another, before and after there is no more room.
 #[test]
 fn headers_of_a_client(rt: HostRuntime) -> Result<(), Fail> {
     let (root, other) = (Hash256([5; 32]), Hash256([7; 32]));
-    let mut client = Client::new(rt.alloc());
-    assert_eq!(rt; client.add_header(&BLOCK, &root), Ok(()));
     let differs = Err(ClientFault::HeaderDiffers { held: root });
-    assert_eq!(rt; client.add_header(&BLOCK, &other), differs);
+    let mut client = Client::new(rt.alloc());
     assert_eq!(rt; client.add_header(&BLOCK, &root), Ok(()));
     for n in 0..65_535u32 {
         let mut hash = [0; 32];
@@ -117,9 +114,13 @@ fn headers_of_a_client(rt: HostRuntime) -> Result<(), Fail> {
         let added = client.add_header(&Hash256(hash), &other);
         added.ok().ok_or("memory")?;
     }
-    let full = Err(ClientFault::HeadersFull);
-    assert_eq!(rt; client.add_header(&Hash256([9; 32]), &other), full);
-    assert_eq!(rt; client.add_header(&BLOCK, &root), Ok(()));
-    assert_eq!(rt; client.add_header(&BLOCK, &other), differs);
+    let cases = [
+        (BLOCK, root, Ok(())),
+        (BLOCK, other, differs),
+        (Hash256([9; 32]), other, Err(ClientFault::HeadersFull)),
+    ];
+    for (hash, root, want) in cases {
+        assert_eq!(rt; client.add_header(&hash, &root), want);
+    }
     Ok(())
 }

@@ -60,10 +60,6 @@ fn place(rt: &HostRuntime, text: &[u8]) -> Result<Option<usize>, Fail> {
     }
 }
 
-fn place_in(rt: &HostRuntime, pieces: &[&str]) -> Result<Option<usize>, Fail> {
-    place(rt, joined(rt, pieces)?.as_slice())
-}
-
 #[test]
 fn text_of_a_diff(rt: HostRuntime) -> Result<(), Fail> {
     let text = whole(&rt)?;
@@ -106,49 +102,33 @@ fn places_in_each_front(rt: HostRuntime) -> Result<(), Fail> {
     Ok(())
 }
 
+// Lists out of order, bytes left over, and the greatest count in each list, which takes no memory ahead of what it counts.
+// The parts are: the count of the branch's hashes, the flags, the deleted hashes, the entries, and what comes behind.
 #[test]
-fn places_of_order(rt: HostRuntime) -> Result<(), Fail> {
-    let twice = [
-        BLOCKS, TOTAL, "02", BRANCH, "0103", COINBASE, "00", "02", ENTRY, ENTRY,
+fn places_of_faults(rt: HostRuntime) -> Result<(), Fail> {
+    let cases: [([&str; 8], Option<usize>); 9] = [
+        (["02", "0103", "02", EIGHTS, NINES, "00", "", ""], None),
+        (["02", "0103", "02", NINES, EIGHTS, "00", "", ""], Some(258)),
+        (["02", "0103", "02", NINES, NINES, "00", "", ""], Some(258)),
+        (["02", "0103", "00", "", "", "02", ENTRY, ENTRY], Some(378)),
+        (["02", "0103", "00", "", "", "01", ENTRY, "00"], Some(378)),
+        ([MOST, "0103", "00", "", "", "01", ENTRY, ""], Some(365)),
+        (
+            ["02", "ffffffffffffffffff03", "00", "", "", "01", ENTRY, ""],
+            Some(142),
+        ),
+        (["02", "0103", MOST, "", "", "01", ENTRY, ""], Some(298)),
+        (["02", "0103", "00", "", "", MOST, ENTRY, ""], Some(386)),
     ];
-    assert_eq!(rt; place_in(&rt, &twice)?, Some(378));
-    let falling = [
-        BLOCKS, TOTAL, "02", BRANCH, "0103", COINBASE, "02", NINES, EIGHTS, "00",
-    ];
-    assert_eq!(rt; place_in(&rt, &falling)?, Some(258));
-    let rising = [
-        BLOCKS, TOTAL, "02", BRANCH, "0103", COINBASE, "02", EIGHTS, NINES, "00",
-    ];
-    assert_eq!(rt; place_in(&rt, &rising)?, None);
-    let equal = [
-        BLOCKS, TOTAL, "02", BRANCH, "0103", COINBASE, "02", NINES, NINES, "00",
-    ];
-    assert_eq!(rt; place_in(&rt, &equal)?, Some(258));
-    let more = [
-        BLOCKS, TOTAL, "02", BRANCH, "0103", COINBASE, "00", "01", ENTRY, "00",
-    ];
-    assert_eq!(rt; place_in(&rt, &more)?, Some(378));
-    Ok(())
-}
-
-// A count takes no memory ahead of what it counts.
-#[test]
-fn greatest_counts(rt: HostRuntime) -> Result<(), Fail> {
-    let hashes = [
-        BLOCKS, TOTAL, MOST, BRANCH, "0103", COINBASE, "00", "01", ENTRY,
-    ];
-    assert_eq!(rt; place_in(&rt, &hashes)?, Some(365));
-    let flags = [
-        BLOCKS, TOTAL, "02", BRANCH, MOST, "03", COINBASE, "00", "01", ENTRY,
-    ];
-    assert_eq!(rt; place_in(&rt, &flags)?, Some(142));
-    let deleted = [
-        BLOCKS, TOTAL, "02", BRANCH, "0103", COINBASE, MOST, "01", ENTRY,
-    ];
-    assert_eq!(rt; place_in(&rt, &deleted)?, Some(298));
-    let entries = [
-        BLOCKS, TOTAL, "02", BRANCH, "0103", COINBASE, "00", MOST, ENTRY,
-    ];
-    assert_eq!(rt; place_in(&rt, &entries)?, Some(386));
+    for ([hashes, flags, deleted, first, second, entries, entry, more], want) in cases {
+        let text = joined(
+            &rt,
+            &[
+                BLOCKS, TOTAL, hashes, BRANCH, flags, COINBASE, deleted, first, second, entries,
+                entry, more,
+            ],
+        )?;
+        assert_eq!(rt; place(&rt, text.as_slice())?, want);
+    }
     Ok(())
 }

@@ -79,7 +79,7 @@ bases_by false = (
 )
 
 -- and as many that the base of each quorum is held
-bases : (start : StartRecord) → AllByRecursion (HoldsBase (profile_of start)) (types_of (profile_of start).quorums)
+pub bases : (start : StartRecord) → AllByRecursion (HoldsBase (profile_of start)) (types_of (profile_of start).quorums)
 bases start = bases_by (start.profile == 1)
 
 -- what a branch keeps that has just begun

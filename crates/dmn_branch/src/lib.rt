@@ -22,7 +22,7 @@ mod transactions;
 pub use branch::Branch;
 pub use fault::{DisconnectRefusal, PrepareFault};
 pub use held::Prepared;
-pub use law::{refused_by_the_least_number, taken_back_as_before};
+pub use law::{bases_are_held, refused_by_the_least_number, taken_back_as_before};
 pub use limits::MOST_EVENTS;
 pub use listing::Listing;
 pub use tip::Tip;

@@ -152,6 +152,7 @@ fn a_commitment_is_judged(rt: HostRuntime) -> Result<(), Fail> {
     for hash in [SECOND, FIRST, THIRD, FOURTH] {
         four.push(hash)?;
     }
+    assert!(rt; four.len() == 4);
     let formings = [Forming::inside(&SMALL, false, &BASE, four, &KEY)];
     let good = commitment(alloc, 9)?;
     let yes = Verdict {

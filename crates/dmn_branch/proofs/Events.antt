@@ -7,6 +7,7 @@ use Rattle.std.proofs.lemmas.List.{length-map}
 use Rattle.dmn_block.specs.Spend as def
 use Rattle.dmn_bytes.specs.declared.hash.Hash256.{Hash256}
 use Rattle.dmn_bytes.specs.declared.points.OutPoint.{OutPoint}
+use Rattle.dmn_indexes.specs.Working.{counted}
 use Rattle.dmn_rows.specs.declared.row.MnRow.{MnRow}
 use Rattle.dmn_rows.specs.Keys.{same_hash-from}
 use Rattle.dmn_rows.specs.Listing.{Listing}
@@ -23,7 +24,7 @@ use Rattle.dmn_tx.specs.declared.tx.Tx.{Tx}
 use Rattle.dmn_tx.specs.declared.tx.TxIn.{TxIn}
 use Rattle.dmn_tx.specs.declared.tx.TxOut.{TxOut}
 use Rattle.dmn_tx.specs.Defs.{id_of}
-use Rattle.dmn_branch.specs.Events.{once, once_there, confirmations, effect_events, tx_events, point_events, inputs_events, output_events, outputs_events, spend_tx_events, spend_events}
+use Rattle.dmn_branch.specs.Events.{once_there, confirmations, effect_events, tx_events, point_events, inputs_events, output_events, outputs_events, spend_tx_events, spend_events}
 use Rattle.dmn_branch.proofs.Spending as rows
 use Rattle.dmn_branch.proofs.Spending.{seen}
 
@@ -38,7 +39,7 @@ found_seen test blind h list = ap is_some (find-plain test blind h list) ∙ som
 
 pub there_seen : (h : ℕ) (who : Option Hash256) (list : List MnRow) → once_there who (plain_rows h list) ≡ once_there who list
 there_seen h None list = refl
-there_seen h (Some hash) list = ap once (found_seen (has_hash hash) (λ _ _. refl) h list)
+there_seen h (Some hash) list = ap counted (found_seen (has_hash hash) (λ _ _. refl) h list)
 
 pub confirmations_seen : (h wait height : ℕ) (list : List MnRow) → confirmations wait height (plain_rows h list) ≡ confirmations wait height list
 confirmations_seen h wait height list =
@@ -70,7 +71,7 @@ other_events list outputs tx height above =
 
 point_seen : (h : ℕ) (point : OutPoint) (list : Listing) → point_events point (seen h list) ≡ point_events point list
 point_seen h point list =
-    ap (λ b. once b + once (is_some (output_at list.outputs point))) (found_seen (has_collateral point) (λ _ _. refl) h list.rows)
+    ap (λ b. counted b + counted (is_some (output_at list.outputs point))) (found_seen (has_collateral point) (λ _ _. refl) h list.rows)
 
 inputs_seen : (h : ℕ) (inputs : List TxIn) (list : Listing) → inputs_events inputs (seen h list) ≡ inputs_events inputs list
 inputs_seen h [] list = refl

@@ -1,5 +1,5 @@
 -- What is asked of a branch.
-use Rattle.std.specs.Prelude.{◌≡◌, ℕ, ◌%◌, ◌==◌, ◌&&◌, nat_le, if◌then◌else◌, List, length, find, filter, Option, None, Some}
+use Rattle.std.specs.Prelude.{◌≡◌, ℕ, ◌%◌, ◌==◌, ◌&&◌, nat_le, if◌then◌else◌, List, length, find, Option, None, Some}
 use Rattle.std.specs.Option.{option_map}
 use Rattle.dmn_block.specs.State.{State}
 use Rattle.dmn_bytes.specs.declared.hash.Hash256.{Hash256}
@@ -8,12 +8,10 @@ use Rattle.dmn_quorums.specs.Duty.{all_active, params_of}
 use Rattle.dmn_quorums.specs.Score.{members_of, modifier_of}
 use Rattle.dmn_rows.specs.declared.profile.QuorumParams.{QuorumParams}
 use Rattle.dmn_rows.specs.declared.row.MnRow.{MnRow}
-use Rattle.dmn_rows.specs.Ranked.{least}
 use Rattle.dmn_rows.specs.Row.{plain}
 use Rattle.dmn_rows.specs.Rows.{has_hash, plain_rows}
-use Rattle.dmn_rows.specs.Waiting.{is_unbanned, turn_cmp}
 use Rattle.dmn_sml.specs.Defs.{root_of, simple}
-use Rattle.dmn_standing.specs.Payment.{forecast}
+use Rattle.dmn_standing.specs.Payment.{forecast, payee_row}
 use Rattle.dmn_branch.specs.declared.tip.Tip.{Tip}
 use Rattle.dmn_branch.specs.Machine.{MachineState, profile, tip, low, top}
 
@@ -53,7 +51,7 @@ row_of hash state = find (has_hash hash) state.rows
 
 -- who is paid next: of the rows that aren't banned the one whose turn is first
 abbrev pub payee_of : State → Option MnRow
-payee_of state = least turn_cmp (filter is_unbanned state.rows)
+payee_of state = payee_row state.rows
 
 -- the next payees, by their hashes
 abbrev pub payees_of : ℕ → State → List Hash256

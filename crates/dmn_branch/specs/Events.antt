@@ -1,9 +1,10 @@
 -- The events of a block: each time that a row or an output is added, changed or removed. One that is changed twice counts
 -- twice. What is asked to be removed and isn't there, and an output that is there already, don't count.
-use Rattle.std.specs.Prelude.{ℕ, ◌+◌, ◌==◌, Bool, is_some, is_none, List, [], ◌∷◌, length, filter, find, Option, None, Some, if◌then◌else◌}
+use Rattle.std.specs.Prelude.{ℕ, ◌+◌, ◌==◌, is_some, is_none, List, [], ◌∷◌, length, filter, find, Option, None, Some, if◌then◌else◌}
 use Rattle.dmn_block.specs.Spend.{collateral_value, spend_point, spend_inputs, add_output, spend_tx}
 use Rattle.dmn_bytes.specs.declared.hash.Hash256.{Hash256}
 use Rattle.dmn_bytes.specs.declared.points.OutPoint.{OutPoint}
+use Rattle.dmn_indexes.specs.Working.{counted}
 use Rattle.dmn_rows.specs.declared.row.MnRow.{MnRow}
 use Rattle.dmn_rows.specs.Listing.{Listing}
 use Rattle.dmn_rows.specs.Rows.{Outputs, has_hash, has_collateral, output_at}
@@ -16,14 +17,10 @@ use Rattle.dmn_tx.specs.declared.tx.TxIn.{TxIn}
 use Rattle.dmn_tx.specs.declared.tx.TxOut.{TxOut}
 use Rattle.dmn_tx.specs.Defs.{id_of}
 
--- one event, where it is so
-abbrev pub once : Bool → ℕ
-once so = if so then 1 else 0
-
 -- one for the row of the hash, where there is a hash and the row is there
 abbrev pub once_there : Option Hash256 → List MnRow → ℕ
 once_there None rows = 0
-once_there (Some hash) rows = once (is_some (find (has_hash hash) rows))
+once_there (Some hash) rows = counted (is_some (find (has_hash hash) rows))
 
 -- ---- rows that are confirmed
 
@@ -46,7 +43,7 @@ tx_events rows outputs tx height = effect_events rows (told_of rows outputs tx h
 
 -- the row and the output that an input removes; no two rows have the same collateral
 abbrev pub point_events : OutPoint → Listing → ℕ
-point_events point list = once (is_some (find (has_collateral point) list.rows)) + once (is_some (output_at list.outputs point))
+point_events point list = counted (is_some (find (has_collateral point) list.rows)) + counted (is_some (output_at list.outputs point))
 
 abbrev pub inputs_events : List TxIn → Listing → ℕ
 inputs_events [] list = 0
@@ -54,7 +51,7 @@ inputs_events (input ∷ inputs) list = point_events input.point list + inputs_e
 
 -- an output that is there already isn't added
 abbrev pub output_events : OutPoint → TxOut → Listing → ℕ
-output_events point output list = if output.value == collateral_value then once (is_none (output_at list.outputs point)) else 0
+output_events point output list = if output.value == collateral_value then counted (is_none (output_at list.outputs point)) else 0
 
 abbrev pub outputs_events : Hash256 → ℕ → List TxOut → Listing → ℕ
 outputs_events id index [] list = 0

@@ -1,11 +1,11 @@
 //! Who is paid, and the mark that it was.
 
 ghost use Rattle.std.specs.Prelude.{◌≡◌, ◌+◌, OnOk, find, is_some};
-ghost use Rattle.dmn_indexes.specs.Working.{Leads};
+ghost use Rattle.dmn_indexes.specs.Working.{Leads, counted};
 ghost use Rattle.dmn_rows.specs.Rows.{has_hash};
 ghost use Rattle.dmn_standing.specs.Payment as standing;
 ghost use Rattle.dmn_standing.specs.Standing.{paid};
-ghost use Rattle.dmn_branch.specs.Events.{once, once_there};
+ghost use Rattle.dmn_branch.specs.Events.{once_there};
 ghost use Rattle.dmn_branch.specs.Parts.{IsWorking};
 ghost use Rattle.dmn_branch.specs.Step.{marked};
 
@@ -44,7 +44,7 @@ fn mark_row(hash: &Hash256, height: u32, list: &mut Working) -> Result<(), Memor
     requires { IsWorking height list.old.rows }
     ensures rows { OnOk result (list.new.rows ≡ paid height hash.now list.old.rows) }
     ensures outputs { OnOk result (list.new.outputs ≡ list.old.outputs) }
-    ensures events { OnOk result (list.new.events ≡ list.old.events + once (is_some (find (has_hash hash.now) list.old.rows))) }
+    ensures events { OnOk result (list.new.events ≡ list.old.events + counted (is_some (find (has_hash hash.now) list.old.rows))) }
     ensures working { OnOk result (IsWorking height list.new.rows) }
     ensures leads { Leads list.old list.new }
 {

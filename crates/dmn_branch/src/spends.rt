@@ -3,12 +3,12 @@
 ghost use Rattle.std.specs.Prelude.{◌≡◌, ◌+◌, ◌≤◌, OnOk, filter, find, is_some, length, map, not};
 ghost use Rattle.dmn_block.specs.Defs.{most_items};
 ghost use Rattle.dmn_block.specs.Spend as def;
-ghost use Rattle.dmn_indexes.specs.Working.{Leads, listing};
+ghost use Rattle.dmn_indexes.specs.Working.{Leads, counted, listing};
 ghost use Rattle.dmn_rows.specs.Distinct.{HasDistinctKeys};
 ghost use Rattle.dmn_rows.specs.Rows.{has_collateral};
 ghost use Rattle.dmn_tx.specs.Defs.{id_of};
 ghost use Rattle.std.specs.List.{All};
-ghost use Rattle.dmn_branch.specs.Events.{once, point_events, inputs_events, output_events, outputs_events, spend_tx_events, spend_events};
+ghost use Rattle.dmn_branch.specs.Events.{point_events, inputs_events, output_events, outputs_events, spend_tx_events, spend_events};
 
 use dmn_bytes::{Hash256, Memory, OutPoint};
 use dmn_indexes::Working;
@@ -78,7 +78,7 @@ fn spend_point(point: &OutPoint, list: &mut Working) -> Result<(), Memory>
 fn drop_collateral(point: &OutPoint, list: &mut Working) -> Result<(), Memory>
     requires { HasDistinctKeys list.old.rows }
     ensures rows { OnOk result (list.new.rows ≡ filter (λ row. not (has_collateral point.now row)) list.old.rows) }
-    ensures events { OnOk result (list.new.events ≡ list.old.events + once (is_some (find (has_collateral point.now) list.old.rows))) }
+    ensures events { OnOk result (list.new.events ≡ list.old.events + counted (is_some (find (has_collateral point.now) list.old.rows))) }
     ensures outputs { OnOk result (list.new.outputs ≡ list.old.outputs) }
     ensures leads { Leads list.old list.new }
 {

@@ -11,8 +11,12 @@ use Rattle.dmn_rows.specs.Waiting.{is_unbanned, turn_cmp}
 use Rattle.dmn_standing.specs.declared.payment.Parts.{Parts}
 
 -- who is paid next: of the rows that aren't banned the one whose turn is first
+abbrev pub payee_row : List MnRow → Option MnRow
+payee_row rows = least turn_cmp (filter is_unbanned rows)
+
+-- its hash
 abbrev pub payee : List MnRow → Option Hash256
-payee rows = option_map (λ r. r.hash) (least turn_cmp (filter is_unbanned rows))
+payee rows = option_map (λ r. r.hash) (payee_row rows)
 
 -- a hash and what follows it, where there is one
 abbrev pub and_then : Option Hash256 → (Hash256 → List Hash256) → List Hash256

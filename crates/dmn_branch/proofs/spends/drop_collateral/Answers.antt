@@ -1,5 +1,5 @@
 use Rattle.std.proofs.Common.{◌+◌, ◌∙◌, sym, ap, arith}
-use Rattle.dmn_branch.specs.Events.{once}
+use Rattle.dmn_indexes.specs.Working.{counted}
 use Rattle.dmn_branch.proofs.Events.{found_by_hash, none_by_hash}
 use Rattle.dmn_branch.proofs.Keys.{drop_found, drop_none}
 use Rattle.dmn_rows.specs.Rows.{has_collateral}
@@ -11,10 +11,10 @@ returns-in_ok-drop_row-in-Some-clause-rows c = c.in_ok-drop_row-in-Some.ensures.
 pub returns-in_ok-drop_row-in-Some-clause-events : goal.returns-in_ok-drop_row-in-Some-clause-events
 returns-in_ok-drop_row-in-Some-clause-events c =
     c.in_ok-drop_row-in-Some.ensures.events
-    ∙ ap (λ b. c.args.list.now.events + once b) (found_by_hash (has_collateral c.args.point.now) c.in-Some.hash c.args.list.now.rows (sym c.in-Some.ensures))
+    ∙ ap (λ b. c.args.list.now.events + counted b) (found_by_hash (has_collateral c.args.point.now) c.in-Some.hash c.args.list.now.rows (sym c.in-Some.ensures))
 
 pub returns-in-None-clause-rows : goal.returns-in-None-clause-rows
 returns-in-None-clause-rows c = sym (drop_none c.args.point.now c.args.list.now.rows (sym c.in-None.ensures))
 
 pub returns-in-None-clause-events : goal.returns-in-None-clause-events
-returns-in-None-clause-events c = let none = ap once (none_by_hash (has_collateral c.args.point.now) c.args.list.now.rows (sym c.in-None.ensures)) in omega (arith, none)
+returns-in-None-clause-events c = let none = ap counted (none_by_hash (has_collateral c.args.point.now) c.args.list.now.rows (sym c.in-None.ensures)) in omega (arith, none)

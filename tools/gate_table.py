@@ -117,8 +117,8 @@ def table(minutes, seconds, words, last):
     """The page."""
     version = subprocess.run(["rt", "version"], stdout=subprocess.PIPE, text=True, check=False).stdout.strip()
     head = ["# What the gate costs", "",
-            "Written by `python3 tools/gate_table.py %s`, which runs `rt ci` and measures the checks that it starts."
-            % " ".join(words).strip(), "",
+            "Written by `python3 tools/gate_table.py%s`, which runs `rt ci` and measures the checks that it starts."
+            % "".join(" " + word for word in words), "",
             "- Kit: `%s`" % version,
             "- Processors: %d" % os.cpu_count(),
             "- Clock: %d minutes %d seconds" % divmod(round(seconds), 60),

@@ -4,3 +4,4 @@ pub mod Unique
 mod Pieces
 mod Heads
 pub mod Found
+mod Formats

@@ -2,6 +2,7 @@
 --   Journal  its text, the commands of a file, and what a crash within an append leaves
 --   Create   a blank file, and what a crash within the making of a journal leaves
 --   Reading  what stands at a place of a file: a header, a record, a closed gate, or a departure from the form
+--   Entries  kind and body, in the language of formats
 --   Reads    what the reading calls answer, by their result
 --   Sure     a disk that tells its room
 --   Laws     that a file has its commands once, and that reading finds what stands there

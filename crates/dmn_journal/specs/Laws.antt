@@ -1,7 +1,9 @@
 -- Laws about the definitions.
-use Rattle.std.specs.Prelude.{◌≡◌, ◌≢◌, ℕ, List, ◌∷◌, ◌++◌, None}
+use Rattle.std.specs.Prelude.{◌≡◌, ◌≢◌, ℕ, ◌+◌, List, ◌∷◌, ◌++◌, length, None}
+use Rattle.dmn_bytes.specs.Format.{whole}
+use Rattle.dmn_journal.specs.Entries.{entry_format}
 use Rattle.dmn_journal.specs.Journal.{Entry, HasCommands, IsShort, entry_text}
-use Rattle.dmn_journal.specs.Reading.{closed, entry_departs, found, found_at}
+use Rattle.dmn_journal.specs.Reading.{closed, entry_departs, found, found_at, place_in}
 
 -- A file has its commands once: behind a header there is one list of records up to the first closed gate.
 abbrev pub CommandsOnce : Type 0
@@ -14,3 +16,7 @@ RecordsAreFound = (at : ℕ) (text rest : List ℕ) (entry : Entry) → entry_de
 -- A gate is closed where a byte other than 1 stands.
 abbrev pub OthersAreClosed : Type 0
 OthersAreClosed = (at : ℕ) (text rest : List ℕ) (gate : ℕ) → text ≡ gate ∷ rest → gate ≢ 1 → found_at at text ≡ closed
+
+-- What a record's length counts departs where it departs from the format of kind and body.
+abbrev pub EntriesAreByTheirFormat : Type 0
+EntriesAreByTheirFormat = (kind : ℕ) (body : List ℕ) → place_in (whole (entry_format (length body + 1)) (kind ∷ body)) ≡ entry_departs (record { kind = kind; body = body })

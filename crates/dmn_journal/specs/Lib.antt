@@ -6,4 +6,5 @@ pub mod Reading
 pub mod Faults
 pub mod Reads
 pub mod Sure
+pub mod Entries
 pub mod Laws

@@ -55,7 +55,8 @@ connect_departs body = if nat_lt LONGEST_BODY (length body) then Some 1 else Non
 abbrev pub hash_departs : List ℕ → Option ℕ
 hash_departs body = if nat_lt (length body) 32 then Some 1 else if nat_lt 32 (length body) then Some 33 else None
 
--- where a kind and a body depart from their form, counted from the kind; none where they are in it
+-- Where a kind and a body depart from their form, counted from the kind; none where they are in it. A law says that this is
+-- where they depart from their format (`entry_format`).
 unfoldable pub entry_departs : Entry → Option ℕ
 entry_departs entry = if entry.kind == CONNECT then connect_departs entry.body else if entry.kind == DISCONNECT then hash_departs entry.body else Some 0
 

@@ -1,6 +1,6 @@
 //! Laws about the definitions.
 
-ghost use Rattle.dmn_journal.specs.Laws.{CommandsOnce, OthersAreClosed, RecordsAreFound};
+ghost use Rattle.dmn_journal.specs.Laws.{CommandsOnce, EntriesAreByTheirFormat, OthersAreClosed, RecordsAreFound};
 
 /// A file has its commands once.
 pub fn commands_once()
@@ -15,4 +15,9 @@ pub fn records_are_found()
 /// A gate is closed where a byte other than 1 stands.
 pub fn others_are_closed()
     ensures { OthersAreClosed }
+{}
+
+/// What a record's length counts departs where it departs from the format of kind and body.
+pub fn entries_are_by_their_format()
+    ensures { EntriesAreByTheirFormat }
 {}

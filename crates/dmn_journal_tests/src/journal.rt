@@ -72,6 +72,7 @@ fn a_journal_has_these_bytes(rt: HostRuntime) -> Result<(), Fail> {
     let alloc = rt.alloc();
     let text = two_records(alloc)?;
     let text = text.as_slice();
+    assert!(rt; text.len() == 105);
     assert_eq!(rt; &text[..12], b"\x01DMNJ001\x2b\0\0\0".as_slice());
     assert_eq!(rt; &text[12..55], START.as_bytes());
     assert_eq!(rt; &text[55..61], b"\x01\x21\0\0\0\x02".as_slice());

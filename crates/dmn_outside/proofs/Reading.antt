@@ -44,12 +44,12 @@ read_any file at (Err e) old new told failed past = record { told = ap unread fa
 
 -- ---- how many bytes were read
 
-more_or_none : (b : Bool) (n : ℕ) (r more : Reads) → more.bytes ≡ r.bytes + n → (if b then r else more).bytes ≤ r.bytes + n
+more_or_none : (b : Bool) (n : ℕ) (r more : Reads) → more.bytes ≤ r.bytes + n → (if b then r else more).bytes ≤ r.bytes + n
 more_or_none true n r more is = omega arith
 more_or_none false n r more is = omega (arith, is)
 
 more_read : (at n : ℕ) (r : Reads) → (reads_more at n r).bytes ≤ r.bytes + n
-more_read at n r = more_or_none (nat_eq n 0) n r _ refl
+more_read at n r = more_or_none (nat_eq n 0) n r _ (omega arith)
 
 pick_read : (file at n : ℕ) (read : Three Reads) → (pick file (change file (reads_more at n) read)).bytes ≤ (pick file read).bytes + n
 pick_read zero at n read = more_read at n read.zeroth

@@ -1,5 +1,5 @@
 -- What each call of a disk does to what is told of it.
-use Rattle.std.specs.Prelude.{◌≡◌, ◌⊎◌, ℕ, ◌+◌, ◌-◌, min, List, [], ◌∷◌, ◌++◌, length, take, drop, replicate, Option, Some, None, if◌then◌else◌, nat_lt, nat_eq}
+use Rattle.std.specs.Prelude.{◌≡◌, ◌⊎◌, ℕ, ◌+◌, ◌-◌, ◌^◌, min, List, [], ◌∷◌, ◌++◌, length, take, drop, replicate, Option, Some, None, if◌then◌else◌, nat_lt, nat_eq}
 use Rattle.dmn_outside.specs.Disk.{Three, change, pick, wrote, cut, File, Reads, Crash, Told, nothing, contents, whole, Past, DiskView}
 
 -- ---- one file
@@ -36,9 +36,9 @@ abbrev pub least_of : ℕ → Option ℕ → ℕ
 least_of at None = at
 least_of at (Some least) = min at least
 
--- A read that gives no byte is not counted.
+-- A read that gives no byte is not counted. The count stands still at its last value, as each count does.
 abbrev pub reads_more : ℕ → ℕ → Reads → Reads
-reads_more at n reads = if nat_eq n 0 then reads else record { bytes = reads.bytes + n; least = Some (least_of at reads.least) }
+reads_more at n reads = if nat_eq n 0 then reads else record { bytes = min (reads.bytes + n) (2 ^ 64 - 1); least = Some (least_of at reads.least) }
 
 -- ---- all that is told
 

@@ -38,7 +38,7 @@ pub trait Disk: Device {
         ensures time { Passes (Self.time self.old) (Self.time self.new) }
         ensures cause { HasCause (Self.disk self.old).faults (Self.disk self.new).faults result }
         ensures sure { Self.tells_room ≡ true → DoesSurely result (Self.disk self.old) (Self.disk self.new) }
-        ensures planned { Self.tells_plan ≡ true → IsPlanned (Self.plan self.old) (Self.plan self.new) (Self.time self.old) result };
+        ensures planned { Self.tells_plan ≡ true → IsPlannedAlone (Self.plan self.old) (Self.plan self.new) (Self.time self.old) result };
 
     /// Writes bytes at a place, with zeros in front of them where it lies behind the file's end. Until a sync a crash may
     /// leave any bytes in the range, also where the call failed.

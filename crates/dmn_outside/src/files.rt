@@ -97,19 +97,16 @@ impl Files {
         self.log.files.text(file).len() as u64
     }
 
-    pub fn read(&mut self, file: u8, at: u64, out: &mut [u8]) -> Result<usize, AllocError>
-        ensures most { IfOk result (λ n. n ≤ length out.old) }
-        ensures bytes { IfOk result (λ n. IfReads (told_of self.old.log) (λ all. ReadsAt (pick file all) at n out.old out.new)) }
-        ensures done { IfOk result (λ n. told_of self.new.log ≡ after_read file at n (told_of self.old.log)) }
-        ensures same { OnErr result (told_of self.new.log ≡ told_of self.old.log) }
+    pub fn read(&mut self, file: u8, at: u64, out: &mut [u8]) -> usize
+        ensures most { result ≤ length out.old }
+        ensures bytes { IfReads (told_of self.old.log) (λ all. ReadsAt (pick file all) at result out.old out.new) }
+        ensures done { told_of self.new.log ≡ after_read file at result (told_of self.old.log) }
         ensures past { past_of self.new.log ≡ past_of self.old.log }
         ensures time { self.new.time ≡ self.old.time }
     {
         let n = copy_at(self.log.files.text(file), at, out);
-        match self.log.counts.note(file, at, n) {
-            Some(()) => Ok(n),
-            None => Err(AllocError),
-        }
+        self.log.counts.note(file, at, n);
+        n
     }
 
     pub fn write(&mut self, moment: u64, file: u8, at: u64, bytes: &[u8]) -> Result<(), AllocError>

@@ -1,6 +1,6 @@
 //! What a disk in memory keeps: what it began with, what was done to it, and what was read.
 
-ghost use Rattle.std.specs.Prelude.{◌≡◌, IfSome, None};
+ghost use Rattle.std.specs.Prelude.{◌≡◌, None};
 ghost use Rattle.dmn_outside.specs.Changes.{none_read, reads_more};
 ghost use Rattle.dmn_outside.specs.Disk.{change, pick};
 
@@ -162,25 +162,19 @@ impl ReadCount {
         }
     }
 
-    // With n bytes more, from this place on; none where they do not fit the counter.
-    fn more(&self, at: u64, n: usize) -> Option<ReadCount>
-        ensures { IfSome result (λ c. c ≡ reads_more at n self.now) }
+    // Counts n bytes more, from this place on.
+    fn note(&mut self, at: u64, n: usize)
+        ensures { self.new ≡ reads_more at n self.old }
     {
         if n == 0 {
-            return Some(ReadCount {
-                bytes: self.bytes,
-                least: self.least,
-            });
+            return;
         }
-        let bytes = self.bytes.checked_add(n as u64)?;
+        self.bytes = self.bytes.saturating_add(n as u64);
         let least = match self.least {
             Some(least) => at.min(least),
             None => at,
         };
-        Some(ReadCount {
-            bytes,
-            least: Some(least),
-        })
+        self.least = Some(least);
     }
 }
 
@@ -205,17 +199,15 @@ impl ReadCounts {
         }
     }
 
-    /// Counts n bytes of a file from this place on. None where they do not fit the counter; nothing changes then.
-    pub fn note(&mut self, file: u8, at: u64, n: usize) -> Option<()>
-        ensures counted { IfSome result (λ _. read_of self.new ≡ change file (reads_more at n) (read_of self.old)) }
-        ensures full { result ≡ None → read_of self.new ≡ read_of self.old }
+    /// Counts n bytes of a file, from this place on.
+    pub fn note(&mut self, file: u8, at: u64, n: usize)
+        ensures { read_of self.new ≡ change file (reads_more at n) (read_of self.old) }
     {
         match file {
-            0 => self.zeroth = self.zeroth.more(at, n)?,
-            1 => self.first = self.first.more(at, n)?,
-            _ => self.second = self.second.more(at, n)?,
+            0 => self.zeroth.note(at, n),
+            1 => self.first.note(at, n),
+            _ => self.second.note(at, n),
         }
-        Some(())
     }
 }
 

@@ -1,10 +1,13 @@
 -- The branch of the first hash: its depth, and the root to which it folds.
-use Rattle.std.proofs.Common.{◌≡◌, ℕ, zero, suc, ◌+◌, ◌-◌, ◌*◌, ◌/◌, ◌^◌, ◌≤◌, ◌<◌, List, [], ◌∷◌, ◌++◌, length, get_or, take, refl, sym, ap, ◌∙◌, append_assoc, arith}
+use Rattle.std.proofs.Common.{◌≡◌, ℕ, zero, suc, ◌+◌, ◌-◌, ◌*◌, ◌/◌, ◌^◌, ◌≤◌, ◌<◌, List, [], ◌∷◌, ◌++◌, length, get_or, take, refl, sym, ap, ◌∙◌, append_assoc, arith, drop, Bool, true}
 use Rattle.std.proofs.lemmas.List.{append-nil, take_more}
+use Rattle.std.specs.Str.{bytes_eq}
+use Rattle.std.proofs.lemmas.Bool.{agree_below, agree_below_at}
+use Rattle.std.proofs.lemmas.Slice.Eq.{bytes_eq-Decides}
 use Rattle.std.proofs.Math.Nat.{pow-suc}
 use Rattle.dmn_bytes.specs.declared.hash.Hash256.{Hash256}
 use Rattle.dmn_merkle.specs.Defs.{pair, above, root_by, merkle_root}
-use Rattle.dmn_merkle.specs.Branch.{IsDepth, siblings_by, siblings, branch_hashes, folded, ones_byte, ones_bytes, flag_bytes}
+use Rattle.dmn_merkle.specs.Branch.{IsDepth, siblings_by, siblings, branch_hashes, folded, flag_bits, bits_bytes, flag_bytes, ones_byte}
 use Rattle.dmn_merkle.proofs.Levels.{shorter}
 
 -- ---- the depth
@@ -101,23 +104,37 @@ first_pushed (a ∷ rest) first h e = ap (λ (x : Hash256). x ∷ siblings (a �
 
 -- ---- flags
 
-length_ones : (n ones : ℕ) → length (ones_bytes n ones) ≡ n
-length_ones zero ones = refl
-length_ones (suc n) ones = ap suc (length_ones n (ones - 8))
-
 pub length_flags : (d : ℕ) → length (flag_bytes d) ≡ (2 * d + 8) / 8
 unfolding flag_bytes
-length_flags d = length_ones ((2 * d + 8) / 8) (d + 1)
+length_flags d = length_bits ((2 * d + 8) / 8) (flag_bits d)
+  where
+    length_bits : (n : ℕ) (bits : List Bool) → length (bits_bytes n bits) ≡ n
+    length_bits zero bits = refl
+    length_bits (suc n) bits = ap suc (length_bits n (drop 8 bits))
+
+-- n bytes of bits, lowest first: so many ones, and then zeros
+abbrev pub ones_bytes : ℕ → ℕ → List ℕ
+ones_bytes zero ones = []
+ones_bytes (suc n) ones = ones_byte ones ∷ ones_bytes n (ones - 8)
+
+-- for each depth that a program meets, bit by bit
+bit_by_bit : agree_below (λ d. bytes_eq (ones_bytes ((2 * d + 8) / 8) (d + 1)) (bits_bytes ((2 * d + 8) / 8) (flag_bits d))) (λ d. true) 33 ≡ true
+bit_by_bit = refl
+
+ones_are_flags : (d : ℕ) → d ≤ 32 → ones_bytes ((2 * d + 8) / 8) (d + 1) ≡ flag_bytes d
+unfolding flag_bytes
+ones_are_flags d le =
+    (bytes_eq-Decides (ones_bytes ((2 * d + 8) / 8) (d + 1)) (bits_bytes ((2 * d + 8) / 8) (flag_bits d))).0
+    (agree_below_at (λ k. bytes_eq (ones_bytes ((2 * k + 8) / 8) (k + 1)) (bits_bytes ((2 * k + 8) / 8) (flag_bits k))) (λ k. true) 33 d bit_by_bit (omega arith))
 
 -- the flags where i bytes are given, n the count of bytes and `ones` the ones that are left
 abbrev pub giving : List ℕ → ℕ → ℕ → ℕ → List ℕ
 giving front n i ones = front ++ ones_bytes (n - i) ones
 
-pub flags_start : (d n : ℕ) → n ≡ (2 * d + 8) / 8 → giving [] n 0 (d + 1) ≡ flag_bytes d
-unfolding flag_bytes
-flags_start d n h =
+pub flags_start : (d n : ℕ) → d ≤ 32 → n ≡ (2 * d + 8) / 8 → giving [] n 0 (d + 1) ≡ flag_bytes d
+flags_start d n le h =
     let z : n - 0 ≡ n = omega arith in
-    ap (λ (m : ℕ). ones_bytes m (d + 1)) (z ∙ h)
+    ap (λ (m : ℕ). ones_bytes m (d + 1)) (z ∙ h) ∙ ones_are_flags d le
 
 pub flag_given : (front : List ℕ) (n i ones byte : ℕ) → i < n → byte ≡ ones_byte ones → giving (front ++ byte ∷ []) n (i + 1) (ones - 8) ≡ giving front n i ones
 flag_given front n i ones byte h e =

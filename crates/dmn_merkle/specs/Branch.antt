@@ -1,5 +1,5 @@
 -- The branch of the first of the ids, and its test (DIP-0004; the partial trees of BIP-0037).
-use Rattle.std.specs.Prelude.{◌==◌, not, ◌≡◌, ℕ, zero, suc, ◌+◌, ◌-◌, ◌*◌, ◌/◌, ◌^◌, ◌≤◌, nat_lt, if◌then◌else◌, List, [], ◌∷◌, length, Result, Ok, Err}
+use Rattle.std.specs.Prelude.{◌==◌, Bool, true, false, not, ◌≡◌, ℕ, zero, suc, ◌+◌, ◌-◌, ◌*◌, ◌/◌, ◌^◌, ◌≤◌, nat_lt, if◌then◌else◌, List, [], ◌∷◌, ◌++◌, length, replicate, take, drop, Result, Ok, Err}
 use Rattle.std.specs.Str.{bytes_eq}
 use Rattle.dmn_bytes.specs.declared.hash.Hash256.{Hash256}
 use Rattle.dmn_merkle.specs.declared.branch.BranchFault.{BranchFault}
@@ -41,21 +41,30 @@ abbrev pub branch_hashes : List Hash256 → List Hash256
 branch_hashes [] = []
 branch_hashes (a ∷ rest) = a ∷ siblings (a ∷ rest)
 
--- the byte of eight bits, lowest first, of which so many are ones, and the rest zeros
-abbrev pub ones_byte : ℕ → ℕ
-ones_byte ones = if nat_lt ones 8 then 2 ^ ones - 1 else 255
+-- a one for the root and for each hash on the way down to the first id, and a zero for each of its siblings
+abbrev pub flag_bits : ℕ → List Bool
+flag_bits d = replicate (d + 1) true ++ replicate d false
 
--- n bytes of bits, lowest first: so many ones, and then zeros
-abbrev pub ones_bytes : ℕ → ℕ → List ℕ
-ones_bytes zero ones = []
-ones_bytes (suc n) ones = ones_byte ones ∷ ones_bytes n (ones - 8)
+-- the number of bits, the lowest first
+abbrev pub bits_number : List Bool → ℕ
+bits_number [] = 0
+bits_number (bit ∷ bits) = (if bit then 1 else 0) + 2 * bits_number bits
 
--- 2 d + 1 bits, d + 1 ones and d zeros, in the least number of bytes
+-- bits in n bytes, eight a byte
+abbrev pub bits_bytes : ℕ → List Bool → List ℕ
+bits_bytes zero bits = []
+bits_bytes (suc n) bits = bits_number (take 8 bits) ∷ bits_bytes n (drop 8 bits)
+
+-- 2 d + 1 bits in the least number of bytes
 unfoldable pub flag_bytes : ℕ → List ℕ
-flag_bytes d = ones_bytes ((2 * d + 8) / 8) (d + 1)
+flag_bytes d = bits_bytes ((2 * d + 8) / 8) (flag_bits d)
 
 abbrev pub branch_of : List Hash256 → Branching
 branch_of ids = record { total = length ids; hashes = branch_hashes ids; flags = flag_bytes (depth_of (length ids)) }
+
+-- the byte of eight bits, lowest first, of which so many are ones, and the rest zeros
+abbrev pub ones_byte : ℕ → ℕ
+ones_byte ones = if nat_lt ones 8 then 2 ^ ones - 1 else 255
 
 -- ---- its test
 

@@ -3,7 +3,7 @@ use Rattle.dmn_merkle.proofs.Branches.{flags_start, flag_given}
 use Rattle.dmn_merkle.proofs.branch.flags_of.Goals as goal
 
 pub loop-i-init : goal.loop-i-init
-loop-i-init c = rw c.new-flags.ensures (flags_start c.args.d _ refl)
+loop-i-init c = rw c.new-flags.ensures (flags_start c.args.d _ c.requires refl)
 
 pub loop-i-preserved : goal.loop-i-preserved
 loop-i-preserved c =

@@ -178,10 +178,12 @@ left_stands {old} {new} m left read sound stands =
       trees = all_trees new.indexes new.mined new.held (held_states m) sound.versions (subst (λ (l : List Kept). AllStand l (held_states m)) read lists);
       top = left.top ∙ stands.top;
       lawful = stands.lawful;
+      pins = left.pins ∙ stands.pins;
+      numbered = stands.numbered;
     }
 
 pub left_none : (b : Keeping) → IsLeft b b
-left_none b = record { profile = refl; first = refl; held = refl; lists = refl; top = refl }
+left_none b = record { profile = refl; first = refl; held = refl; lists = refl; top = refl; pinned = refl; pins = refl }
 
 pub sound_none : (ix : Indexes) (mined : List MinedAt) → AreSound ix mined []
 sound_none ix mined = record {

@@ -12,6 +12,7 @@ mod Ranks
 mod Asking
 mod Putting
 mod Holding
+mod Pinning
 mod Entries
 mod Numbers
 mod Mining

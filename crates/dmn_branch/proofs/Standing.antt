@@ -178,6 +178,7 @@ pub record IsAdded (old new : Keeping) (prepared : Kept) : Type 0 where
   pub first : new.first ≡ old.first
   pub lists : new.lists ≡ drop (low_kept new - low_kept old) (old.lists ++ prepared ∷ [])
   pub top : new.top ≡ max old.top prepared.height
+  pub pins : new.pins ≡ old.pins
 
 low_up : (first kept top more : ℕ) → max first (top - kept) ≤ max first (max top more - kept)
 low_up first kept top more = omega arith
@@ -214,6 +215,8 @@ stands_next old new prepared m block added some read sound stands next =
       trees = all_trees new.indexes new.mined new.held (held_states n) sound.versions (subst (λ (l : List Kept). AllStand l (held_states n)) read all);
       top = top;
       lawful = lawful_next m block n next.accepted stands.lawful;
+      pins = added.pins ∙ stands.pins;
+      numbered = stands.numbered;
     }
 
 -- ---- one list less
@@ -233,6 +236,7 @@ pub record IsLess (old new : Keeping) : Type 0 where
   pub last : Kept
   pub lists : old.lists ≡ new.lists ++ last ∷ []
   pub top : new.top ≡ old.top
+  pub pins : new.pins ≡ old.pins
 
 blocks_some : (m : MachineState) → IsLawful m.start (machine.branch m) → 1 < length (history m) → 0 < length (machine.branch m)
 unfolding history
@@ -262,6 +266,8 @@ stands_back old new m hash less some read sound stands =
       trees = all_trees new.indexes new.mined new.held (held_states n) sound.versions (subst (λ (l : List Kept). AllStand l (held_states n)) read all);
       top = top;
       lawful = back.lawful;
+      pins = less.pins ∙ stands.pins;
+      numbered = stands.numbered;
     }
 
 -- ---- heights

@@ -13,7 +13,8 @@ use Rattle.dmn_rows.specs.Profile.{small_profile, main_profile}
 use Rattle.dmn_rows.proofs.Found.{found_keeps, found_ascends}
 use Rattle.dmn_quorums.specs.Duty.{types_of}
 use Rattle.dmn_branch.specs.Step.{profile_of}
-use Rattle.dmn_branch.specs.Machine.{MachineState, held_states, history, top}
+use Rattle.dmn_branch.specs.Machine.{MachineState, begun, held_states, history, top}
+use Rattle.dmn_branch.specs.Pins.{no_pins}
 use Rattle.dmn_branch.specs.Stands.{Kept, Keeping, AllStand, AreSound, HoldsBase, IsWhole, IsKept, StandsAt, StandsFor, first_kept, kept_in}
 use Rattle.dmn_branch.proofs.Holding.{all_trees}
 
@@ -55,6 +56,7 @@ pub record IsBegun (branch : Keeping) (start : StartRecord) : Type 0 where
   pub first : branch.first ≡ start.first
   pub lists : branch.lists ≡ first_kept start ∷ []
   pub top : branch.top ≡ start.first - 1
+  pub pins : branch.pins ≡ no_pins
 
 -- the lowest height of a registry without blocks
 low_start : (first kept : ℕ) → max first (first - kept) ≡ first
@@ -96,19 +98,21 @@ start_kept start fits =
       bases = bases start;
     }
 
-pub start_stands : (branch : Keeping) (start : StartRecord) → start_record.Fits start → IsBegun branch start → branch.lists ≡ map (kept_in branch.indexes branch.mined) branch.held → AreSound branch.indexes branch.mined branch.held → StandsFor branch (record { start = start; commands = [] })
+pub start_stands : (branch : Keeping) (start : StartRecord) → start_record.Fits start → IsBegun branch start → branch.lists ≡ map (kept_in branch.indexes branch.mined) branch.held → AreSound branch.indexes branch.mined branch.held → StandsFor branch (begun start)
 unfolding history top
-start_stands branch start fits begun read sound =
-    let m : MachineState = record { start = start; commands = [] } in
+start_stands branch start fits begins read sound =
+    let m : MachineState = begun start in
     let none : max (start.first - 1) (start.first - 1 - (profile_of start).kept) - (start.first - 1) ≡ 0 = omega (arith, low_start (start.first - 1) (profile_of start).kept) in
     let states : origin start ∷ [] ≡ held_states m = ap (λ (n : ℕ). drop n (origin start ∷ [])) (sym none) in
-    let one : AllStand branch.lists (origin start ∷ []) = rw begun.lists (first_stands start fits, tt) in
+    let one : AllStand branch.lists (origin start ∷ []) = rw begins.lists (first_stands start fits, tt) in
     let lists = subst (AllStand branch.lists) states one in
     record {
-      profile = begun.profile;
-      first = begun.first;
+      profile = begins.profile;
+      first = begins.first;
       lists = lists;
       trees = all_trees branch.indexes branch.mined branch.held (held_states m) sound.versions (subst (λ (l : List Kept). AllStand l (held_states m)) read lists);
-      top = begun.top;
+      top = begins.top;
       lawful = refl;
+      pins = begins.pins;
+      numbered = omega arith;
     }

@@ -3,6 +3,7 @@ use Rattle.std.specs.Prelude.{◌≡◌, ℕ, ◌%◌, ◌==◌, ◌&&◌, nat_l
 use Rattle.std.specs.Option.{option_map}
 use Rattle.dmn_block.specs.State.{State}
 use Rattle.dmn_bytes.specs.declared.hash.Hash256.{Hash256}
+use Rattle.dmn_indexes.specs.Version.{by_hash, values}
 use Rattle.dmn_payloads.specs.declared.commitment.Commitment.{Commitment}
 use Rattle.dmn_quorums.specs.Duty.{all_active, params_of}
 use Rattle.dmn_quorums.specs.Score.{members_of, modifier_of}
@@ -13,6 +14,7 @@ use Rattle.dmn_rows.specs.Rows.{has_hash, plain_rows}
 use Rattle.dmn_sml.specs.Defs.{root_of, simple}
 use Rattle.dmn_standing.specs.Payment.{forecast, payee_row}
 use Rattle.dmn_branch.specs.declared.tip.Tip.{Tip}
+use Rattle.dmn_branch.specs.Pins.{Pinned, page_of}
 use Rattle.dmn_branch.specs.Machine.{MachineState, profile, tip, low, top}
 
 abbrev pub told : MachineState → Tip
@@ -81,3 +83,17 @@ IsToldOf tell told (Some state) = told ≡ tell state
 -- a stored row, where one is lent, as it is seen at a height
 abbrev pub seen_at : ℕ → Option MnRow → Option MnRow
 seen_at height = option_map (plain height)
+
+-- ---- what is told of a pin
+
+-- these pairs are a part of the pinned list: its rows as they are seen at its height, under their hashes
+pub record IsPartOf (pin : Pinned) (from most : ℕ) (pairs : List (Hash256 × MnRow)) : Type 0 where
+  pub rows : plain_rows pin.height (values pairs) ≡ page_of from most pin
+  pub hashes : pairs ≡ by_hash (values pairs)
+
+-- a part is told exactly where there is such a pin
+abbrev pub IsPageOf : ℕ → ℕ → Option Pinned → Option (List (Hash256 × MnRow)) → Type 0
+IsPageOf from most None None = Unit {0}
+IsPageOf from most (Some pin) (Some pairs) = IsPartOf pin from most pairs
+IsPageOf from most None (Some pairs) = ⊥
+IsPageOf from most (Some pin) None = ⊥

@@ -1,6 +1,8 @@
 -- One block more, replay of blocks, the machine, and what a branch stands for. A reader begins here; the parts are:
 --   Step     the state after a block, or the rule that refuses it
 --   Replay   the states after blocks, from a start record on
---   Machine  a start record and the commands that were accepted, what is held of them, one block more, and one less
+--   Pins     lists that stay readable until they are released
+--   Machine  a start record, the commands that were accepted and the pins that are live; what is held of them, one block more,
+--            one less, and one pin more or less
 --   Stands   the relation of what a branch keeps to a machine; nothing else says how lists are kept
 -- The state itself, and what inputs and outputs do to it, stand in dmn_block; the rules on transactions in dmn_rules.

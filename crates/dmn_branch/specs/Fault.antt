@@ -1,8 +1,10 @@
--- What a fault of a prepared block says.
-use Rattle.std.specs.Prelude.{◌≡◌, Option, Some, Result, Err}
+-- What a fault of a prepared block says, and that of a pin.
+use Rattle.std.specs.Prelude.{◌≡◌, ℕ, Option, None, Some, Result, Err}
 use Rattle.dmn_block.specs.declared.fault.ShapeFault.{ShapeFault}
 use Rattle.dmn_block.specs.declared.fault.ShapeFault.TheVariants as shapes
 use Rattle.dmn_block.specs.declared.refusal.Refusal.{Refusal}
+use Rattle.dmn_branch.specs.declared.fault.PinFault.{PinFault}
+use Rattle.dmn_branch.specs.declared.fault.PinFault.TheVariants as pin_faults
 use Rattle.dmn_branch.specs.declared.fault.PrepareFault.{PrepareFault}
 use Rattle.dmn_branch.specs.declared.fault.PrepareFault.TheVariants as faults
 
@@ -19,3 +21,8 @@ Tells defined faults.Memory = Unit {0}
 abbrev pub TellsRule : Option Refusal → PrepareFault → Type 0
 TellsRule broken (faults.Refused refusal) = broken ≡ Some refusal
 TellsRule broken faults.Memory = Unit {0}
+
+-- PinsFull comes where there is no number for a further pin.
+abbrev pub TellsFull : Option ℕ → PinFault → Type 0
+TellsFull free pin_faults.PinsFull = free ≡ None
+TellsFull free pin_faults.Memory = Unit {0}

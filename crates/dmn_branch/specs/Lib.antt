@@ -3,6 +3,7 @@ pub mod Events
 pub mod Quorums
 pub mod Step
 pub mod Replay
+pub mod Pins
 pub mod Machine
 pub mod Stands
 pub mod Asked

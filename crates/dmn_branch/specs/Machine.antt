@@ -1,5 +1,6 @@
 -- The machine: a start record and the commands that were accepted since, what is held of them, and one command more. What
 -- the branch decides and what the top decides stand apart: a disconnect takes the branch back by a block, and leaves the top.
+-- Pins stand beside the commands: no command changes them, and they change nothing of what is held.
 use Rattle.std.specs.Prelude.{ℕ, ◌-◌, ◌&&◌, Bool, not, ◌==◌, nat_le, max, List, [], ◌∷◌, ◌++◌, length, take, drop, find, Option, None, Some, Result, Ok, Err, if◌then◌else◌}
 use Rattle.std.specs.Option.{option_map}
 use Rattle.std.specs.Str.{bytes_eq}
@@ -10,6 +11,7 @@ use Rattle.dmn_block.specs.State.{State}
 use Rattle.dmn_bytes.specs.declared.hash.Hash256.{Hash256}
 use Rattle.dmn_bytes.specs.Points.{is_zero}
 use Rattle.dmn_rows.specs.declared.profile.Profile.{Profile}
+use Rattle.dmn_rows.specs.declared.row.MnRow.{MnRow}
 use Rattle.dmn_rows.specs.declared.rule.Rule.TheVariants.{ZeroHash, HashKnown}
 use Rattle.dmn_rows.specs.declared.start.StartRecord.{StartRecord}
 use Rattle.dmn_branch.specs.declared.fault.DisconnectRefusal.{DisconnectRefusal}
@@ -18,6 +20,7 @@ use Rattle.dmn_quorums.specs.Forming.{Formed}
 use Rattle.dmn_branch.specs.Quorums.{state_in}
 use Rattle.dmn_branch.specs.Step as steps
 use Rattle.dmn_branch.specs.Step.{and_then, unless, step, tip_of}
+use Rattle.dmn_branch.specs.Pins.{Pinned, Pins, no_pins, with_pin, without_pin}
 use Rattle.dmn_branch.specs.Replay.{replay}
 
 -- an accepted command: a block was added, or the last one, of this hash, was taken back
@@ -29,6 +32,11 @@ pub record MachineState : Type 0 where
   pub start : StartRecord
   -- the commands that were accepted, in order
   pub commands : List Command
+  pub pins : Pins
+
+-- without commands and pins
+abbrev pub begun : StartRecord → MachineState
+begun start = record { start = start; commands = []; pins = no_pins }
 
 -- ---- the run through the commands
 
@@ -153,3 +161,19 @@ disconnect m hash =
     else if (tip m).height == m.start.first - 1 then Err AtStart
     else if nat_le (tip m).height (top m - (profile m).depth) then Err (TooDeep (floor m))
     else Ok (without_tip m hash)
+
+-- ---- pins
+
+abbrev pub rows_of : Option State → List MnRow
+rows_of None = []
+rows_of (Some state) = state.rows
+
+-- the list of a height that is held, as a pin of this number
+abbrev pub pin_at : MachineState → ℕ → ℕ → Pinned
+pin_at m number height = record { number = number; height = height; rows = rows_of (state_at m height) }
+
+abbrev pub pinned : MachineState → ℕ → ℕ → MachineState
+pinned m number height = record m { pins = with_pin m.pins (pin_at m number height) }
+
+abbrev pub released : MachineState → ℕ → MachineState
+released m number = record m { pins = without_pin m.pins number }

@@ -1,17 +1,18 @@
 -- What a branch keeps, and which machine it stands for. This file alone says how lists are kept.
-use Rattle.std.specs.Prelude.{◌≡◌, ℕ, suc, ◌+◌, ◌-◌, ◌≤◌, ◌<◌, false, max, List, [], ◌∷◌, length, replicate, slice_index_or, Ok}
-use Rattle.std.specs.List.{All, AllByRecursion}
+use Rattle.std.specs.Prelude.{◌≡◌, ℕ, suc, ◌+◌, ◌-◌, ◌≤◌, ◌<◌, false, max, List, [], ◌∷◌, length, map, replicate, slice_index_or, Option, Ok}
+use Rattle.std.specs.List.{All, AllByRecursion, slice_index}
 use Rattle.dmn_block.specs.declared.frame.BlockFrame.{BlockFrame}
 use Rattle.dmn_block.specs.State.{State}
 use Rattle.dmn_bytes.specs.declared.hash.Hash256.{Hash256}
-use Rattle.dmn_bytes.specs.Points.{is_zero}
+use Rattle.dmn_bytes.specs.Points.{hash_cmp, is_zero}
 use Rattle.dmn_indexes.specs.declared.indexes.Indexes.{Indexes}
 use Rattle.dmn_indexes.specs.Marks.{IsBelow, marks_of}
-use Rattle.dmn_indexes.specs.Version.{rows_in, outputs_in}
+use Rattle.dmn_indexes.specs.Version.{by_hash, outputs_in, rows_in, values}
 use Rattle.dmn_indexes.specs.Version as versions
 use Rattle.dmn_indexes.specs.Stands as trees
 use Rattle.dmn_branch.specs.declared.held.Held.{Held}
 use Rattle.dmn_branch.specs.declared.held.Prepared.{Prepared}
+use Rattle.dmn_branch.specs.declared.pins.Pin.{Pin}
 use Rattle.dmn_payloads.specs.declared.mined.MinedAt.{MinedAt}
 use Rattle.dmn_quorums.specs.Duty.{types_of, undone}
 use Rattle.dmn_rows.specs.declared.profile.Profile.{Profile}
@@ -22,9 +23,11 @@ use Rattle.dmn_rows.specs.Distinct.{HasDistinctKeys}
 use Rattle.dmn_rows.specs.Listing.{Listing, IsAscending, OutputsAscend}
 use Rattle.dmn_rows.specs.Rows.{Outputs, plain_rows}
 use Rattle.dmn_rows.specs.Start.{most_outputs}
+use Rattle.dmn_versions.specs.Trees.{IsSound, reads}
 use Rattle.dmn_sml.specs.Defs.{root_of, simple}
 use Rattle.dmn_branch.specs.Machine as machine
 use Rattle.dmn_branch.specs.Machine.{MachineState, held_states, profile, top, tip, with_block, connect}
+use Rattle.dmn_branch.specs.Pins.{AreNumbered, Pinned, Pins}
 use Rattle.dmn_branch.specs.Replay.{IsLawful}
 use Rattle.dmn_branch.specs.Step.{most_rows}
 
@@ -50,8 +53,16 @@ first_kept start = record { height = start.first - 1; hash = start.hash; root = 
 abbrev pub kept_in : Indexes → List MinedAt → Held → Kept
 kept_in ix mined held = record { height = held.height; hash = held.hash; root = held.root; rows = rows_in ix held.version; outputs = outputs_in ix held.version; mined = undone held.height mined }
 
+-- a pinned list, read from the arena of rows
+abbrev pub pinned_in : Indexes → Pin → Pinned
+pinned_in ix pin = record { number = pin.number; height = pin.height; rows = plain_rows pin.height (values (reads ix.rows pin.root)) }
+
+abbrev pub pins_in : Indexes → List Pin → Option ℕ → Pins
+pins_in ix pinned next = record { live = map (pinned_in ix) pinned; next = next }
+
 -- what a branch keeps: the versions from the lowest height that is held on, the arenas in which they are held, the
--- commitments that were mined, the lists as which all this reads, and how many more versions there is room for
+-- commitments that were mined, the lists as which all this reads, how many more versions there is room for, and the pins,
+-- with what these read as
 pub record Keeping : Type 0 where
   pub profile : Profile
   pub first : ℕ
@@ -61,6 +72,8 @@ pub record Keeping : Type 0 where
   pub lists : List Kept
   pub top : ℕ
   pub room : ℕ
+  pub pinned : List Pin
+  pub pins : Pins
 
 -- what is kept of each height: the hash isn't zero, the root is that of the rows, keys are distinct, rows and outputs ascend
 -- strictly, no penalty is that of a later height, and there aren't too many rows and outputs
@@ -98,7 +111,8 @@ AllTreesStand ix (held ∷ rest) (state ∷ states) = trees.StandsAt ix held.ver
 AllTreesStand ix [] (state ∷ states) = ⊥
 AllTreesStand ix (held ∷ rest) [] = ⊥
 
--- A branch stands for a machine: for the states that are held of it, and the top. No block of the machine's branch is refused.
+-- A branch stands for a machine: for the states that are held of it, the top, and the pins. No block of the machine's branch
+-- is refused, and no number of a pin was given twice.
 pub record StandsFor (branch : Keeping) (m : MachineState) : Type 0 where
   pub profile : branch.profile ≡ profile m
   pub first : branch.first ≡ m.start.first
@@ -106,6 +120,8 @@ pub record StandsFor (branch : Keeping) (m : MachineState) : Type 0 where
   pub trees : AllTreesStand branch.indexes branch.held (held_states m)
   pub top : branch.top ≡ top m
   pub lawful : IsLawful m.start (machine.branch m)
+  pub pins : branch.pins ≡ m.pins
+  pub numbered : AreNumbered m.pins
 
 -- what was prepared is the state after this block, which the machine accepts
 pub record IsNext (prepared : Kept) (m : MachineState) (block : BlockFrame) : Type 0 where
@@ -147,14 +163,40 @@ pub record AreSound (ix : Indexes) (mined : List MinedAt) (held : List Held) : T
   pub below : (i j : ℕ) (d : Held) → i ≤ j → j < length held → IsBelow (slice_index_or held j d).marks (slice_index_or held i d).version
   pub wholes : All (λ h. IsWhole (kept_in ix mined h)) held
 
--- What is held of before is held, and reads as before. Only the arenas, the commitments above the tip, and the room may be
--- others.
+-- The tree of a pin is sound, and lies below the mark that the pin keeps. Its rows stand under their hashes.
+pub record IsPinned (ix : Indexes) (pin : Pin) : Type 0 where
+  pub sound : IsSound hash_cmp ix.rows.nodes.items pin.root.0
+  pub below : pin.root.0 ≤ pin.mark
+  pub hashes : reads ix.rows pin.root ≡ by_hash (values (reads ix.rows pin.root))
+
+-- how many nodes the arena of rows has to keep for pins, and at least so many
+abbrev pub most_mark : ℕ → List Pin → ℕ
+most_mark mark [] = mark
+most_mark mark (pin ∷ pinned) = most_mark (max mark pin.mark) pinned
+
+-- the marks of a height, but that the arena of rows keeps what pins need
+abbrev pub marks_over : List Pin → List ℕ → List ℕ
+marks_over pinned marks =
+    most_mark (slice_index marks 0) pinned
+    ∷ slice_index marks 1
+    ∷ slice_index marks 2
+    ∷ slice_index marks 3
+    ∷ slice_index marks 4
+    ∷ slice_index marks 5
+    ∷ slice_index marks 6
+    ∷ slice_index marks 7
+    ∷ []
+
+-- What is held of before is held, and reads as before; so do the pins. Only the arenas, the commitments above the tip, and the
+-- room may be others.
 pub record IsLeft (old new : Keeping) : Type 0 where
   pub profile : new.profile ≡ old.profile
   pub first : new.first ≡ old.first
   pub held : new.held ≡ old.held
   pub lists : new.lists ≡ old.lists
   pub top : new.top ≡ old.top
+  pub pinned : new.pinned ≡ old.pinned
+  pub pins : new.pins ≡ old.pins
 
 -- the lowest height that is held
 abbrev pub low_kept : Keeping → ℕ

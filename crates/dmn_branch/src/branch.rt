@@ -1,34 +1,38 @@
 //! A branch: the lists of the heights that are held, one block more, and one less.
 
-ghost use Rattle.std.specs.Prelude.{◌≡◌, ℕ, ◌*◌, ◌+◌, ◌-◌, ◌≤◌, ◌&&◌, ◌%◌, ◌^◌, ◌==◌, [], Some, IfOk, IfErr, IfSome, OnOk, OnErr, find, length, max, nat_le, slice_get, ◌<◌, Ok, Err, None, drop};
+ghost use Rattle.std.specs.Prelude.{◌≡◌, ℕ, ◌*◌, ◌+◌, ◌-◌, ◌≤◌, ◌&&◌, ◌%◌, ◌^◌, ◌==◌, [], Some, IfOk, IfErr, IfSome, MatchBool, OnOk, OnErr, find, is_some, length, max, nat_le, slice_get, ◌<◌, Ok, Err, None, drop};
 ghost use Rattle.std.specs.List.{AllByRecursion};
 ghost use Rattle.std.specs.Option.{option_copied, option_map};
 ghost use Rattle.std.specs.Str.{bytes_eq};
 ghost use Rattle.dmn_block.specs.Defs.{IsBlock};
 ghost use Rattle.dmn_block.specs.declared.frame.BlockFrame.{BlockFrame};
 ghost use Rattle.dmn_bytes.specs.declared.hash.Hash256.{Hash256};
-ghost use Rattle.dmn_indexes.specs.Marks.{Cut, SameNodes};
+ghost use Rattle.dmn_bytes.specs.Points.{hash_cmp};
+ghost use Rattle.dmn_indexes.specs.Marks.{Cut, IsBelow, SameNodes};
 ghost use Rattle.dmn_indexes.specs.Version.{GrownBy};
 ghost use Rattle.dmn_indexes.specs.Version as versions;
 ghost use Rattle.dmn_rows.specs.declared.profile.Profile.{Profile};
 ghost use Rattle.dmn_rows.specs.Defs.{KeepsBounds};
 ghost use Rattle.dmn_rows.specs.Listing.{OutputsAscend};
 ghost use Rattle.dmn_rows.specs.Start.{start_record};
-ghost use Rattle.dmn_branch.specs.Asked.{told, Lends, IsToldOf, members_in, payee_of, payees_of, quorums_in, row_of, seen_at};
+ghost use Rattle.dmn_branch.specs.Asked.{told, IsPageOf, IsToldOf, Lends, members_in, payee_of, payees_of, quorums_in, row_of, seen_at};
 ghost use Rattle.dmn_branch.specs.declared.held.Held.{Held};
-ghost use Rattle.dmn_branch.specs.Fault.{Tells, TellsRule};
+ghost use Rattle.dmn_branch.specs.Fault.{Tells, TellsFull, TellsRule};
 ghost use Rattle.dmn_branch.specs.Machine as machine;
 ghost use Rattle.dmn_branch.specs.Machine.{MachineState};
 ghost use Rattle.dmn_branch.specs.Parts.{StandsIn, IsSettled, all_formed_in, formed_in};
+ghost use Rattle.dmn_branch.specs.Pins.{free_number, number_after, pin_of};
 ghost use Rattle.dmn_quorums.specs.Duty.{types_of};
-ghost use Rattle.dmn_branch.specs.Stands.{StandsFor, IsNext, IsReady, IsHeld, IsLeft, HoldsBase, kept_in, low_kept, prepared_in, IsAboveFloor, low_of, floor_kept};
+ghost use Rattle.dmn_branch.specs.Stands.{StandsFor, IsNext, IsReady, IsHeld, IsLeft, HoldsBase, kept_in, low_kept, marks_over, prepared_in, IsAboveFloor, low_of, floor_kept};
 ghost use Rattle.dmn_branch.specs.Step.{profile_of as profile_by, most_rows};
+ghost use Rattle.dmn_walk.specs.Page.{IsReady as IsReadable, pairs_left};
 
 use crate::asked::{payees_of, row_of};
-use crate::fault::{DisconnectRefusal, PrepareFault};
+use crate::fault::{DisconnectRefusal, PinFault, PrepareFault};
 use crate::held::{Held, Prepared};
 use crate::listing::Listing;
 use crate::origin::origin;
+use crate::pins::{Pin, PinList};
 use crate::quorums::{inside, members_of};
 use crate::setting::Setting;
 use crate::step::advance;
@@ -39,6 +43,7 @@ use dmn_indexes::Indexes;
 use dmn_payloads::Commitment;
 use dmn_quorums::{Forming, Mined, base_of, in_window, params_of};
 use dmn_rows::{MnRow, Profile, QuorumParams, Rule, StartRecord, profile_of};
+use dmn_walk::{Pairs, page};
 use std::alloc::Global;
 use std::marker::Model;
 
@@ -53,17 +58,20 @@ pub struct Branch {
     // Those that aren't null. Above the tip stand only those of a block that was prepared.
     mined: Mined,
     top: u32,
+    pins: PinList,
+    next_pin: Option<u32>,
 }
 
 impl Model for Branch {
     ghost use Rattle.std.specs.Prelude.{◌-◌, map, vec_len, vec_capacity};
-    ghost use Rattle.dmn_branch.specs.Stands.{Keeping, IsKept, AreSound, kept_in};
+    ghost use Rattle.std.specs.List.{All};
+    ghost use Rattle.dmn_branch.specs.Stands.{Keeping, IsKept, IsPinned, AreSound, kept_in, pins_in};
 
     ghost Value = { Keeping };
 
-    ghost view = { λ a. record { profile = a.profile; first = a.first; indexes = a.indexes; held = a.held.items; mined = a.mined; lists = map (kept_in a.indexes a.mined) a.held.items; top = a.top; room = vec_capacity a.held - vec_len a.held } };
+    ghost view = { λ a. record { profile = a.profile; first = a.first; indexes = a.indexes; held = a.held.items; mined = a.mined; lists = map (kept_in a.indexes a.mined) a.held.items; top = a.top; room = vec_capacity a.held - vec_len a.held; pinned = a.pins; pins = pins_in a.indexes a.pins a.next_pin } };
 
-    ghost invariant = { λ a. IsKept a.profile a.first a.top (map (kept_in a.indexes a.mined) a.held.items) × AreSound a.indexes a.mined a.held.items };
+    ghost invariant = { λ a. IsKept a.profile a.first a.top (map (kept_in a.indexes a.mined) a.held.items) × AreSound a.indexes a.mined a.held.items × All (IsPinned a.indexes) a.pins };
 }
 
 // The profile of a start record.
@@ -110,7 +118,7 @@ impl Branch {
     #[tactic(auto, using(crate::proofs::Starting::start_bounds, crate::proofs::Starting::start_ascends, crate::proofs::Starting::start_stands))]
     pub fn start(alloc: Global, start: &StartRecord) -> Result<Branch, Memory>
         requires { start_record.Fits start.now }
-        ensures { IfOk result (λ branch. StandsFor branch (record { start = start.now; commands = [] })) }
+        ensures { IfOk result (λ branch. StandsFor branch (machine.begun start.now)) }
     {
         let mut indexes = Indexes::new(alloc);
         let first = origin(alloc, start, &mut indexes)?;
@@ -123,6 +131,8 @@ impl Branch {
             held,
             mined: Mined::new(alloc),
             top: start.first - 1,
+            pins: PinList::new(alloc),
+            next_pin: Some(1),
         })
     }
 
@@ -197,6 +207,7 @@ impl Branch {
         ensures height { result.now.height ≡ height }
         ensures whole { versions.IsWhole self.now.indexes result.now.version }
         ensures few { length (versions.rows_in self.now.indexes result.now.version) ≤ most_rows }
+        ensures below { IsBelow result.now.marks result.now.version }
     {
         &self.held[(height - self.low()) as usize]
     }
@@ -431,21 +442,22 @@ impl Branch {
         ensures same { (m : MachineState) → StandsFor self.old m → StandsFor self.new m }
         ensures left { IsLeft self.old self.new }
         ensures settled { IsSettled self.new }
-        ensures cut { (tip : Held) → slice_get self.new.held (length self.new.held - 1) ≡ Some tip → Cut tip.marks self.old.indexes self.new.indexes }
+        ensures cut { (tip : Held) → slice_get self.new.held (length self.new.held - 1) ≡ Some tip → Cut (marks_over self.new.pinned tip.marks) self.old.indexes self.new.indexes }
     {
         let _ = prepared;
         self.cut();
     }
 
-    // Cuts each arena back to the nodes that it had at the tip, and the commitments to those at or below the tip.
+    // Cuts each arena back to the nodes that it had at the tip, but for what pins need, and the commitments to those at or
+    // below the tip.
     fn cut(&mut self)
         ensures left { IsLeft self.old self.new }
         ensures settled { IsSettled self.new }
         ensures same { (m : MachineState) → StandsFor self.old m → StandsFor self.new m }
-        ensures cut { (tip : Held) → slice_get self.new.held (length self.new.held - 1) ≡ Some tip → Cut tip.marks self.old.indexes self.new.indexes }
+        ensures cut { (tip : Held) → slice_get self.new.held (length self.new.held - 1) ≡ Some tip → Cut (marks_over self.new.pinned tip.marks) self.old.indexes self.new.indexes }
     {
         let last = *self.last();
-        self.indexes.cut(&last.marks);
+        self.indexes.cut(&self.pins.marks_over(&last.marks));
         self.mined.undo(last.height);
     }
 
@@ -470,14 +482,76 @@ impl Branch {
         Ok(())
     }
 
-    /// Takes the last block back: what is held is as before it, and the top stays. This takes no memory, and cuts each arena
-    /// back to the nodes that it had at the height before.
+    /// Takes the last block back: what is held is as before it, and the top and the pins stay. This takes no memory, and cuts
+    /// each arena back to the nodes that it had at the height before, but for what pins need.
     pub fn disconnect(&mut self)
         requires { IsAboveFloor self.old }
         ensures stands { (m : MachineState) (hash : Hash256) → StandsFor self.old m → StandsFor self.new (machine.without_tip m hash) }
-        ensures cut { (tip : Held) → slice_get self.new.held (length self.new.held - 1) ≡ Some tip → Cut tip.marks self.old.indexes self.new.indexes }
+        ensures cut { (tip : Held) → slice_get self.new.held (length self.new.held - 1) ≡ Some tip → Cut (marks_over self.new.pinned tip.marks) self.old.indexes self.new.indexes }
     {
         self.held.pop();
         self.cut();
+    }
+
+    // The number of one pin more.
+    fn free_number(&self) -> Option<u32>
+        ensures { result ≡ free_number self.now.pins }
+    {
+        if self.pins.is_full() {
+            None
+        } else {
+            self.next_pin
+        }
+    }
+
+    /// Pins the list of a height that is held: whatever is connected or disconnected, it stays readable until it is
+    /// released. Its number is one that no pin had before. The fault is PinsFull exactly where as many are live as may be, or
+    /// the last number was given.
+    pub fn pin(&mut self, height: u32) -> Result<u32, PinFault>
+        requires { IsHeld self.old height }
+        ensures number { (m : MachineState) → StandsFor self.old m → IfOk result (λ number. free_number m.pins ≡ Some number) }
+        ensures fresh { (m : MachineState) → StandsFor self.old m → IfOk result (λ number. pin_of m.pins number ≡ None) }
+        ensures pinned { (m : MachineState) → StandsFor self.old m → IfOk result (λ number. StandsFor self.new (machine.pinned m number height)) }
+        ensures full { (m : MachineState) → StandsFor self.old m → IfErr result (TellsFull (free_number m.pins)) }
+        ensures same { (m : MachineState) → StandsFor self.old m → OnErr result (StandsFor self.new m) }
+    {
+        let held = *self.held_at(height);
+        let Some(number) = self.free_number() else {
+            return Err(PinFault::PinsFull);
+        };
+        let pin = Pin {
+            number,
+            height,
+            root: held.version.rows,
+            mark: held.marks[0],
+        };
+        if self.pins.add(pin).is_err() {
+            return Err(PinFault::Memory);
+        }
+        self.next_pin = number.checked_add(1);
+        Ok(number)
+    }
+
+    /// Lends a part of a pinned list: the rows from a place of the order of hashes on, counted from 0, at most `most` of
+    /// them. None exactly where no live pin has the number. Their penalties are those after the block `penalty_at`. This takes
+    /// no memory.
+    pub fn pin_page(&self, number: u32, from: u32, most: u16) -> Option<Pairs<'_, Hash256, MnRow>>
+        ensures page { (m : MachineState) → StandsFor self.now m → IsPageOf from most (pin_of m.pins number) (option_map pairs_left result) }
+        ensures ready { IfSome result (IsReadable hash_cmp) }
+    {
+        let pin = self.pins.find(number)?;
+        Some(page(&self.indexes.rows, pin.root, from, most))
+    }
+
+    /// Releases a pin. False exactly where no live pin has the number, and then nothing changes.
+    pub fn release(&mut self, number: u32) -> bool
+        ensures live { (m : MachineState) → StandsFor self.old m → result ≡ is_some (pin_of m.pins number) }
+        ensures stands { (m : MachineState) → StandsFor self.old m → MatchBool result (StandsFor self.new (machine.released m number)) (StandsFor self.new m) }
+    {
+        if self.pins.find(number).is_none() {
+            return false;
+        }
+        self.pins.drop(number);
+        true
     }
 }

@@ -15,6 +15,17 @@ pub enum PrepareFault {
     Memory,
 }
 
+/// Why a list is not pinned. The branch is as before.
+#[derive(Clone, Copy, Debug, PartialEq, Eq, Error)]
+pub enum PinFault {
+    /// As many pins are live as may be, or the last number was given.
+    #[error("no further pin")]
+    PinsFull,
+    /// Memory ran out.
+    #[error("memory ran out")]
+    Memory,
+}
+
 /// Why the last block is not taken back.
 #[derive(Clone, Copy, Debug, PartialEq, Eq, Error)]
 pub enum DisconnectRefusal {

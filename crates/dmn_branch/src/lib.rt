@@ -12,6 +12,7 @@ mod limits;
 mod listing;
 mod mark;
 mod origin;
+mod pins;
 mod quorums;
 mod setting;
 mod spends;
@@ -20,7 +21,7 @@ mod tip;
 mod transactions;
 
 pub use branch::Branch;
-pub use fault::{DisconnectRefusal, PrepareFault};
+pub use fault::{DisconnectRefusal, PinFault, PrepareFault};
 pub use held::Prepared;
 pub use law::{bases_are_held, refused_by_the_least_number, taken_back_as_before};
 pub use limits::MOST_EVENTS;

@@ -41,6 +41,7 @@ invariant_of-self c =
     let same = subst (λ (top : ℕ). IsKept profile first top (drop (low_of profile first top - low_of profile first c.self.inside.top) (map (kept_in ix mined) held ++ kept_in ix mined next ∷ []))) (sym c.max-self-inside.ensures) kept in (
       subst (IsKept profile first c.max-self-inside.result) lists same,
       subst (AreSound ix mined) (sym items) (drop_on by (held ++ next ∷ []) (push_on held next ready.version ready.marks ready.whole c.self.invariant.1)),
+      c.self.invariant.2,
     )
 
 pub returns : goal.returns
@@ -62,6 +63,7 @@ returns c = λ m block stands next.
           ∙ ap (λ (n : ℕ). drop (low_of c.self.inside.profile c.self.inside.first c.max-self-inside.result - n) (map (kept_in ix mined) held ++ kept_in ix mined one ∷ [])) low
           ∙ ap (λ (b : Keeping). drop (low_of c.self.inside.profile c.self.inside.first c.max-self-inside.result - low_kept c.args.self.now) (b.lists ++ kept_in b.indexes b.mined one ∷ [])) c.self.view_is;
       top = c.max-self-inside.ensures ∙ ap (λ (b : Keeping). max b.top one.height) c.self.view_is;
+      pins = ap (λ (b : Keeping). b.pins) c.self.view_is;
     })
     (subst (λ (b : Keeping). 0 < length b.lists) c.self.view_is c.self.invariant.0.some)
     refl (invariant_of-self c).1 stands next

@@ -1,11 +1,18 @@
-use Rattle.std.proofs.Common.{◌≡◌, ◌-◌, ◌+◌, List, length, map, Some, refl, sym, ap, subst, ◌∙◌}
+use Rattle.std.proofs.Common.{◌≡◌, ℕ, ◌-◌, ◌+◌, List, length, map, Some, refl, sym, ap, subst, ◌∙◌}
 use Rattle.std.specs.Prelude.{slice_get}
-use Rattle.dmn_indexes.specs.Marks.{Cut}
+use Rattle.dmn_indexes.specs.Marks.{Cut, KeepsBelow}
 use Rattle.dmn_branch.specs.declared.held.Held.{Held}
-use Rattle.dmn_branch.specs.Stands.{Kept, Keeping, IsKept, kept_in, low_kept, low_of}
+use Rattle.dmn_branch.specs.Stands.{Kept, Keeping, IsKept, kept_in, low_kept, low_of, marks_over}
 use Rattle.dmn_branch.proofs.Holding.{cut_on, left_stands, some_is}
 use Rattle.dmn_branch.proofs.Mining.{alike_dropped, settled_by}
+use Rattle.dmn_branch.proofs.Pinning.{PinsOn, keeps_over, pins_cut, pins_read}
 use Rattle.dmn_branch.proofs.branch.Branch.cut.Goals as goal
+
+pins_by : (c : goal.After-undo) → PinsOn c.self.inside.indexes c.cut.new.self c.self.inside.pins
+pins_by c =
+    let ix = c.self.inside.indexes in
+    let cut = subst (λ (l : List ℕ). Cut l ix c.cut.new.self) c.marks_over.ensures c.cut.ensures.cut in
+    pins_cut ix c.cut.new.self c.self.inside.pins c.last.result.now.marks cut c.self.invariant.2
 
 pub invariant_of-self : goal.invariant_of-self
 invariant_of-self c =
@@ -17,8 +24,9 @@ invariant_of-self c =
     let some = subst (λ (b : Keeping). slice_get b.held (length b.held - 1) ≡ Some last) (sym c.self.view_is) c.last.ensures.held in
     let height = c.last.ensures.height ∙ ap (λ (b : Keeping). low_kept b + length b.lists) (sym c.self.view_is) in
     let alike = alike_dropped ix mined c.undo.new.self last.height low held c.self.invariant.0.heights height c.undo.ensures in
-    let on = cut_on mined c.undo.new.self held last some c.cut.ensures.kept alike c.self.invariant.1 in
-    (subst (IsKept c.self.inside.profile c.self.inside.first c.self.inside.top) (sym on.same) c.self.invariant.0, on.sound)
+    let marks = subst (λ (l : List ℕ). KeepsBelow l ix c.cut.new.self) c.marks_over.ensures c.cut.ensures.kept in
+    let on = cut_on mined c.undo.new.self held last some (keeps_over c.self.inside.pins last.marks marks) alike c.self.invariant.1 in
+    (subst (IsKept c.self.inside.profile c.self.inside.first c.self.inside.top) (sym on.same) c.self.invariant.0, on.sound, (pins_by c).sound)
 
 pub returns-clause-left : goal.returns-clause-left
 returns-clause-left c =
@@ -30,13 +38,16 @@ returns-clause-left c =
     let some = subst (λ (b : Keeping). slice_get b.held (length b.held - 1) ≡ Some last) (sym c.self.view_is) c.last.ensures.held in
     let height = c.last.ensures.height ∙ ap (λ (b : Keeping). low_kept b + length b.lists) (sym c.self.view_is) in
     let alike = alike_dropped ix mined c.undo.new.self last.height low held c.self.invariant.0.heights height c.undo.ensures in
-    let on = cut_on mined c.undo.new.self held last some c.cut.ensures.kept alike c.self.invariant.1 in
+    let marks = subst (λ (l : List ℕ). KeepsBelow l ix c.cut.new.self) c.marks_over.ensures c.cut.ensures.kept in
+    let on = cut_on mined c.undo.new.self held last some (keeps_over c.self.inside.pins last.marks marks) alike c.self.invariant.1 in
     record {
       profile = ap (λ (b : Keeping). b.profile) c.self.view_is;
       first = ap (λ (b : Keeping). b.first) c.self.view_is;
       held = ap (λ (b : Keeping). b.held) c.self.view_is;
       lists = on.same ∙ ap (λ (b : Keeping). b.lists) c.self.view_is;
       top = ap (λ (b : Keeping). b.top) c.self.view_is;
+      pinned = ap (λ (b : Keeping). b.pinned) c.self.view_is;
+      pins = pins_read c.self.inside.next_pin (pins_by c) ∙ ap (λ (b : Keeping). b.pins) c.self.view_is;
     }
 
 pub returns-clause-same : goal.returns-clause-same
@@ -52,7 +63,8 @@ returns-clause-settled c =
     let some = subst (λ (b : Keeping). slice_get b.held (length b.held - 1) ≡ Some last) (sym c.self.view_is) c.last.ensures.held in
     let height = c.last.ensures.height ∙ ap (λ (b : Keeping). low_kept b + length b.lists) (sym c.self.view_is) in
     let alike = alike_dropped ix mined c.undo.new.self last.height low held c.self.invariant.0.heights height c.undo.ensures in
-    let on = cut_on mined c.undo.new.self held last some c.cut.ensures.kept alike c.self.invariant.1 in
+    let marks = subst (λ (l : List ℕ). KeepsBelow l ix c.cut.new.self) c.marks_over.ensures c.cut.ensures.kept in
+    let on = cut_on mined c.undo.new.self held last some (keeps_over c.self.inside.pins last.marks marks) alike c.self.invariant.1 in
     settled_by low (length (map (kept_in c.cut.new.self c.undo.new.self) held)) last.height mined c.undo.new.self (height ∙ ap (λ (l : List Kept). low + length l) (sym on.same)) c.undo.ensures
 
 pub returns-clause-cut : goal.returns-clause-cut
@@ -60,5 +72,6 @@ returns-clause-cut c = λ tip is.
     let last = c.last.result.now in
     let some = subst (λ (b : Keeping). slice_get b.held (length b.held - 1) ≡ Some last) (sym c.self.view_is) c.last.ensures.held in
     let same : last ≡ tip = some_is _ last tip some is in
-    subst (λ (b : Keeping). Cut tip.marks b.indexes c.cut.new.self) c.self.view_is
-    (subst (λ (h : Held). Cut h.marks c.self.inside.indexes c.cut.new.self) same c.cut.ensures.cut)
+    subst (λ (b : Keeping). Cut (marks_over c.self.inside.pins tip.marks) b.indexes c.cut.new.self) c.self.view_is
+    (subst (λ (h : Held). Cut (marks_over c.self.inside.pins h.marks) c.self.inside.indexes c.cut.new.self) same
+    (subst (λ (l : List ℕ). Cut l c.self.inside.indexes c.cut.new.self) c.marks_over.ensures c.cut.ensures.cut))

@@ -20,7 +20,7 @@ invariant_of-self c =
     let some : 0 < length (map (kept_in ix mined) left) = omega (arith, many, ap length on.lists, length-append (map (kept_in ix mined) left) (on.last ∷ [])) in
     let high = subst IsAboveFloor (sym c.self.view_is) c.requires in
     let kept = subst (IsKept c.self.inside.profile c.self.inside.first c.self.inside.top) on.lists c.self.invariant.0 in
-    (kept_less c.self.inside.profile c.self.inside.first c.self.inside.top (map (kept_in ix mined) left) on.last kept some (omega (arith, high.above, ap length on.lists, length-append (map (kept_in ix mined) left) (on.last ∷ []))), on.sound)
+    (kept_less c.self.inside.profile c.self.inside.first c.self.inside.top (map (kept_in ix mined) left) on.last kept some (omega (arith, high.above, ap length on.lists, length-append (map (kept_in ix mined) left) (on.last ∷ []))), on.sound, c.self.invariant.2)
 
 pub returns-clause-stands : goal.returns-clause-stands
 returns-clause-stands c = λ m hash stands.
@@ -35,4 +35,4 @@ returns-clause-stands c = λ m hash stands.
     let some : 0 < length (map (kept_in ix mined) left) = omega (arith, many, ap length on.lists, length-append (map (kept_in ix mined) left) (on.last ∷ [])) in
     let before = subst (λ (b : Keeping). StandsFor b m) (sym c.self.view_is) stands in
     c.cut.ensures.same (without_tip m hash)
-    (stands_back _ _ m hash (record { profile = refl; first = refl; last = on.last; lists = on.lists; top = refl }) some refl on.sound before)
+    (stands_back _ _ m hash (record { profile = refl; first = refl; last = on.last; lists = on.lists; top = refl; pins = refl }) some refl on.sound before)

@@ -1,6 +1,7 @@
 use Rattle.std.proofs.Common.{◌≡◌, ◌-◌, ◌<◌, ◌≤◌, length, map, Some, sym, ap, ◌∙◌, refl, subst, arith}
 use Rattle.std.specs.Prelude.{slice_get}
 use Rattle.std.proofs.lemmas.List.{length-map}
+use Rattle.dmn_indexes.specs.Marks.{IsBelow}
 use Rattle.dmn_indexes.specs.Version as versions
 use Rattle.dmn_branch.specs.declared.held.Held.{Held}
 use Rattle.dmn_branch.specs.Stands.{AreFrom, Keeping, IsHeld, kept_in, low_of, low_kept}
@@ -57,6 +58,16 @@ returns-clause-few c =
     let lt : at < length held = omega (arith, low, there.low, there.high, length-map held (kept_in c.self.inside.indexes c.self.inside.mined)) in
     subst (λ (b : Keeping). length (versions.rows_in b.indexes one.version) ≤ most_rows) c.self.view_is
     (subst (λ (h : Held). length (versions.rows_in c.self.inside.indexes h.version) ≤ most_rows) (sym c.index.ensures) (c.self.invariant.1.wholes at one lt).masternodes)
+
+pub returns-clause-below : goal.returns-clause-below
+returns-clause-below c =
+    let held = c.self.inside.held.items in
+    let one = c.index.result.now in
+    let there = subst (λ (b : Keeping). IsHeld b c.args.height) (sym c.self.view_is) c.requires in
+    let low : c.low.result ≡ low_of c.self.inside.profile c.self.inside.first c.self.inside.top = c.low.ensures ∙ ap low_kept (sym c.self.view_is) in
+    let at = c.args.height - c.low.result in
+    let lt : at < length held = omega (arith, low, there.low, there.high, length-map held (kept_in c.self.inside.indexes c.self.inside.mined)) in
+    subst (λ (h : Held). IsBelow h.marks h.version) (sym c.index.ensures) (c.self.invariant.1.below at at one (omega arith) lt)
 
 pub returns-clause-list : goal.returns-clause-list
 returns-clause-list c =

@@ -1,5 +1,6 @@
 use Rattle.std.proofs.Common.{◌≡◌, ℕ, ◌-◌, ◌+◌, List, length, map, Some, refl, sym, ap, ◌∙◌, subst, arith}
 use Rattle.std.specs.Prelude.{slice_get}
+use Rattle.std.specs.List.{All}
 use Rattle.std.proofs.lemmas.List.{length-map}
 use Rattle.std.proofs.lemmas.Result.{err_from_is_err_and}
 use Rattle.dmn_block.specs.Shape.{broken_rule}
@@ -9,12 +10,13 @@ use Rattle.dmn_branch.specs.declared.held.Held.{Held}
 use Rattle.dmn_branch.specs.Machine as machine
 use Rattle.dmn_branch.specs.Machine.{tip}
 use Rattle.dmn_branch.specs.Parts.{Given, IsSettled, all_formed_in}
-use Rattle.dmn_branch.specs.Stands.{Keeping, IsKept, AreSound, StandsFor, kept_in, low_kept, low_of}
+use Rattle.dmn_branch.specs.Stands.{Keeping, IsKept, IsPinned, AreSound, StandsFor, kept_in, low_kept, low_of}
 use Rattle.dmn_branch.specs.Step.{events_from}
 use Rattle.dmn_branch.proofs.Connecting.{tells_step, next_is}
 use Rattle.dmn_branch.proofs.Drawing.{all_formed_are}
 use Rattle.dmn_branch.proofs.Holding.{keeps_on, left_stands, last_mapped, last_version, last_whole, ok_from}
 use Rattle.dmn_branch.proofs.Mining.{alike_added, settled_at}
+use Rattle.dmn_branch.proofs.Pinning.{pins_grow, pins_read, pins_same}
 use Rattle.dmn_branch.proofs.Standing.{tip_stands}
 use Rattle.dmn_branch.proofs.Stepping.{shape_refuses, tells_shape}
 use Rattle.dmn_branch.proofs.branch.Branch.prepare_next.Goals as goal
@@ -57,7 +59,8 @@ invariant_of-self-in-Ok c =
     let settled = settled_at c.self.inside.profile c.self.inside.first c.self.inside.top ix mined held last.height height (subst IsSettled (sym c.self.view_is) c.requires.settled) in
     let alike = alike_added ix mined more last.height (low_of c.self.inside.profile c.self.inside.first c.self.inside.top) held c.self.invariant.0.heights height (c.in-Ok.ensures.mined ∙ sym settled) in
     let on = keeps_on mined more held c.in-Ok.ensures.kept alike c.self.invariant.1 in
-    subst (λ (l : List Held). IsKept c.self.inside.profile c.self.inside.first c.self.inside.top (map (kept_in iy more) l) × AreSound iy more l) (sym c.reserve.ensures.items) (subst (IsKept c.self.inside.profile c.self.inside.first c.self.inside.top) (sym on.same) c.self.invariant.0, on.sound)
+    let pins = pins_grow ix iy c.self.inside.pins c.in-Ok.ensures.grown c.self.invariant.2 in
+    subst (λ (l : List Held). IsKept c.self.inside.profile c.self.inside.first c.self.inside.top (map (kept_in iy more) l) × AreSound iy more l × All (IsPinned iy) c.self.inside.pins) (sym c.reserve.ensures.items) (subst (IsKept c.self.inside.profile c.self.inside.first c.self.inside.top) (sym on.same) c.self.invariant.0, on.sound, pins.sound)
 
 pub invariant_of-self-2 : goal.invariant_of-self-2
 invariant_of-self-2 c =
@@ -71,7 +74,8 @@ invariant_of-self-2 c =
     let settled = settled_at c.self.inside.profile c.self.inside.first c.self.inside.top ix mined held last.height height (subst IsSettled (sym c.self.view_is) c.requires.settled) in
     let alike = alike_added ix mined more last.height (low_of c.self.inside.profile c.self.inside.first c.self.inside.top) held c.self.invariant.0.heights height (c.in-Err.ensures.mined ∙ sym settled) in
     let on = keeps_on mined more held c.in-Err.ensures.kept alike c.self.invariant.1 in
-    subst (λ (l : List Held). IsKept c.self.inside.profile c.self.inside.first c.self.inside.top (map (kept_in iy more) l) × AreSound iy more l) (sym c.reserve.ensures.items) (subst (IsKept c.self.inside.profile c.self.inside.first c.self.inside.top) (sym on.same) c.self.invariant.0, on.sound)
+    let pins = pins_same ix iy c.self.inside.pins c.in-Err.ensures.same c.self.invariant.2 in
+    subst (λ (l : List Held). IsKept c.self.inside.profile c.self.inside.first c.self.inside.top (map (kept_in iy more) l) × AreSound iy more l × All (IsPinned iy) c.self.inside.pins) (sym c.reserve.ensures.items) (subst (IsKept c.self.inside.profile c.self.inside.first c.self.inside.top) (sym on.same) c.self.invariant.0, on.sound, pins.sound)
 
 pub returns-in-Ok-clause-left : goal.returns-in-Ok-clause-left
 returns-in-Ok-clause-left c =
@@ -91,6 +95,8 @@ returns-in-Ok-clause-left c =
       held = c.reserve.ensures.items ∙ ap (λ (b : Keeping). b.held) c.self.view_is;
       lists = ap (map (kept_in iy more)) c.reserve.ensures.items ∙ on.same ∙ ap (λ (b : Keeping). b.lists) c.self.view_is;
       top = ap (λ (b : Keeping). b.top) c.self.view_is;
+      pinned = ap (λ (b : Keeping). b.pinned) c.self.view_is;
+      pins = pins_read c.self.inside.next_pin (pins_grow ix iy c.self.inside.pins c.in-Ok.ensures.grown c.self.invariant.2) ∙ ap (λ (b : Keeping). b.pins) c.self.view_is;
     }
 
 pub returns-clause-left : goal.returns-clause-left
@@ -111,6 +117,8 @@ returns-clause-left c =
       held = c.reserve.ensures.items ∙ ap (λ (b : Keeping). b.held) c.self.view_is;
       lists = ap (map (kept_in iy more)) c.reserve.ensures.items ∙ on.same ∙ ap (λ (b : Keeping). b.lists) c.self.view_is;
       top = ap (λ (b : Keeping). b.top) c.self.view_is;
+      pinned = ap (λ (b : Keeping). b.pinned) c.self.view_is;
+      pins = pins_read c.self.inside.next_pin (pins_same ix iy c.self.inside.pins c.in-Err.ensures.same c.self.invariant.2) ∙ ap (λ (b : Keeping). b.pins) c.self.view_is;
     }
 
 pub returns-in-Ok-clause-same : goal.returns-in-Ok-clause-same

@@ -1,9 +1,9 @@
 -- Pins, where the arena of rows changes around them.
-use Rattle.std.proofs.Common.{◌≡◌, ℕ, zero, suc, ◌+◌, ◌-◌, ◌<◌, ◌≤◌, max, Bool, true, false, cond, List, [], ◌∷◌, ◌++◌, length, take, drop, get_or, map, filter, find, Option, Some, None, refl, sym, ap, ◌∙◌, subst, arith}
-use Rattle.std.specs.Prelude.{◌==◌, not, nat_lt, is_some, slice_get}
+use Rattle.std.proofs.Common.{Bor, ◌≡◌, ℕ, zero, suc, ◌+◌, ◌-◌, ◌<◌, ◌≤◌, max, Bool, true, false, cond, List, [], ◌∷◌, ◌++◌, length, take, drop, get_or, map, filter, find, Option, Some, None, refl, sym, ap, ◌∙◌, subst, arith}
+use Rattle.std.specs.Prelude.{◌==◌, not, nat_lt, is_some, SomeIff}
 use Rattle.std.specs.List.{All, slice_index}
-use Rattle.std.proofs.lemmas.Bool.{ne_eqb}
-use Rattle.std.specs.Option.{option_map}
+use Rattle.std.proofs.lemmas.Bool.{lt-ltb, ltb-true, ne_eqb}
+use Rattle.std.specs.Option.{option_copied, option_map}
 use Rattle.std.proofs.lemmas.List.{length-map, map-append, take-map, drop-map}
 use Rattle.std.proofs.lemmas.List.Elements.{All-push}
 use Rattle.dmn_block.specs.State.{State}
@@ -64,6 +64,16 @@ none_there least (pin ∷ pins) number is =
     let below = at_most (pin.number + 1) pins (Some number) is.1 in
     let other : (pin.number == number) ≡ false = ne_eqb pin.number number (λ (e : pin.number ≡ number). omega (arith, e, below)) in
     ap (λ b. cond b (Some pin) (find (λ (p : Pinned). p.number == number) pins)) other ∙ none_there (pin.number + 1) pins number is.1
+
+-- the next number, as the code finds it
+pub next_number : (found : Option ℕ) (number : ℕ) → SomeIff found (number + 1 < 4294967296) (number + 1) → found ≡ number_after number
+next_number None number none = go (nat_lt number last_number) refl
+  where
+    go : (b : Bool) → nat_lt number last_number ≡ b → None ≡ cond b (Some (number + 1)) None
+    go true e = absurd (none (omega (arith, ltb-true number last_number e)))
+    go false e = refl
+next_number (Some next) number is =
+    ap (λ (n : ℕ). Some n) is.1 ∙ ap (λ b. cond b (Some (number + 1)) None) (sym (lt-ltb number last_number (omega (arith, is.0))))
 
 free_next : (pins : Pins) (number : ℕ) → free_number pins ≡ Some number → pins.next ≡ Some number
 free_next pins number is = go (nat_lt (length pins.live) 16) is
@@ -219,6 +229,14 @@ pins_less ix pinned next number = ap (λ (l : List Pinned). record { live = l; n
 
 pub pin_found : (ix : Indexes) (pinned : List Pin) (next : Option ℕ) (number : ℕ) → pin_of (pins_in ix pinned next) number ≡ option_map (pinned_in ix) (find (λ (p : Pin). p.number == number) pinned)
 pin_found ix pinned next number = find_mapped ix number pinned
+
+pub some_mapped : {A B : Type 0} (f : A → B) (o : Option A) → is_some o ≡ is_some (option_map f o)
+some_mapped f None = refl
+some_mapped f (Some x) = refl
+
+pub some_alike : {A : Type 0} (o : Option (Bor A)) → is_some o ≡ is_some (option_copied o)
+some_alike None = refl
+some_alike (Some x) = refl
 
 -- those that are left of all
 pub left_of : (P : Pin → Type 0) (test : Pin → Bool) (pinned : List Pin) → All P pinned → All P (filter test pinned)

@@ -1,11 +1,10 @@
 -- Pins, where the arena of rows changes around them.
-use Rattle.std.proofs.Common.{Bor, ◌≡◌, ℕ, zero, suc, ◌+◌, ◌-◌, ◌<◌, ◌≤◌, max, Bool, true, false, cond, List, [], ◌∷◌, ◌++◌, length, take, drop, get_or, map, filter, find, Option, Some, None, refl, sym, ap, ◌∙◌, subst, arith}
+use Rattle.std.proofs.Common.{Bor, ◌≡◌, ℕ, zero, suc, ◌+◌, ◌<◌, ◌≤◌, max, Bool, true, false, cond, List, [], ◌∷◌, ◌++◌, length, take, drop, get_or, map, filter, find, Option, Some, None, refl, sym, ap, ◌∙◌, subst, arith}
 use Rattle.std.specs.Prelude.{◌==◌, not, nat_lt, is_some, SomeIff}
 use Rattle.std.specs.List.{All, slice_index}
 use Rattle.std.proofs.lemmas.Bool.{lt-ltb, ltb-true, ne_eqb}
 use Rattle.std.specs.Option.{option_copied, option_map}
 use Rattle.std.proofs.lemmas.List.{length-map, map-append, take-map, drop-map}
-use Rattle.std.proofs.lemmas.List.Elements.{All-push}
 use Rattle.dmn_block.specs.State.{State}
 use Rattle.dmn_bytes.specs.declared.hash.Hash256.{Hash256}
 use Rattle.dmn_bytes.specs.Points.{hash_cmp}
@@ -13,7 +12,6 @@ use Rattle.dmn_indexes.specs.declared.indexes.Indexes.{Indexes}
 use Rattle.dmn_indexes.specs.declared.version.Version.{Version}
 use Rattle.dmn_indexes.specs.Marks.{Cut, IsBelow, KeepsBelow, SameNodes}
 use Rattle.dmn_indexes.specs.Version.{GrownBy, by_hash, values}
-use Rattle.dmn_indexes.specs.Version as versions
 use Rattle.dmn_rows.specs.declared.row.MnRow.{MnRow}
 use Rattle.dmn_rows.specs.Row.{plain}
 use Rattle.dmn_rows.specs.Rows.{plain_rows}

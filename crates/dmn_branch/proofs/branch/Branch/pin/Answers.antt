@@ -5,7 +5,7 @@ use Rattle.dmn_indexes.specs.Version as versions
 use Rattle.dmn_branch.specs.declared.pins.Pin.{Pin}
 use Rattle.dmn_branch.specs.Machine as machine
 use Rattle.dmn_branch.specs.Parts.{StandsIn}
-use Rattle.dmn_branch.specs.Pins.{Pinned, Pins, free_number, number_after, with_pin}
+use Rattle.dmn_branch.specs.Pins.{Pinned, Pins, free_number, with_pin}
 use Rattle.dmn_branch.specs.Stands.{IsPinned, Keeping, StandsFor, kept_in, pinned_in, pins_in}
 use Rattle.dmn_branch.proofs.Holding.{ok_from}
 use Rattle.dmn_branch.proofs.Pinning.{fresh_number, next_number, numbered_with, pin_made, pins_more, repinned}

@@ -1,10 +1,8 @@
-use Rattle.std.proofs.Common.{◌≡◌, Option, Some, None, refl, sym, ap, ◌∙◌, subst, rules}
+use Rattle.std.proofs.Common.{◌≡◌, Some, None, sym, ap, ◌∙◌, subst}
 use Rattle.std.specs.Prelude.{◌==◌, find}
 use Rattle.std.specs.Option.{option_copied, option_map}
 use Rattle.dmn_branch.specs.declared.pins.Pin.{Pin}
-use Rattle.dmn_branch.specs.Asked.{IsPageOf}
-use Rattle.dmn_branch.specs.Machine.{MachineState}
-use Rattle.dmn_branch.specs.Pins.{Pinned, Pins, pin_of}
+use Rattle.dmn_branch.specs.Pins.{Pins, pin_of}
 use Rattle.dmn_branch.specs.Stands.{IsPinned, Keeping, StandsFor, pinned_in}
 use Rattle.dmn_branch.proofs.Pinning.{found_has, page_is, pin_found}
 use Rattle.dmn_branch.proofs.branch.Branch.pin_page.Goals as goal

@@ -1,7 +1,6 @@
-use Rattle.std.proofs.Common.{◌≡◌, Bool, List, Option, refl, sym, ap, ◌∙◌, subst}
+use Rattle.std.proofs.Common.{◌≡◌, List, refl, sym, ap, ◌∙◌, subst}
 use Rattle.std.specs.List.{All}
 use Rattle.std.specs.Prelude.{◌==◌, is_some, not}
-use Rattle.std.specs.Option.{option_copied, option_map}
 use Rattle.dmn_branch.specs.declared.pins.Pin.{Pin}
 use Rattle.dmn_branch.specs.Pins.{Pins, pin_of, without_pin}
 use Rattle.dmn_branch.specs.Stands.{IsPinned, Keeping, StandsFor, pinned_in, pins_in}

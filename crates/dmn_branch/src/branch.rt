@@ -538,6 +538,7 @@ impl Branch {
     pub fn pin_page(&self, number: u32, from: u32, most: u16) -> Option<Pairs<'_, Hash256, MnRow>>
         ensures page { (m : MachineState) → StandsFor self.now m → IsPageOf from most (pin_of m.pins number) (option_map pairs_left result) }
         ensures ready { IfSome result (IsReadable hash_cmp) }
+        ensures few { IfSome result (λ pairs. length (pairs_left pairs) ≤ most) }
     {
         let pin = self.pins.find(number)?;
         Some(page(&self.indexes.rows, pin.root, from, most))

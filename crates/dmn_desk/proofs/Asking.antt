@@ -2,7 +2,7 @@
 use Rattle.std.proofs.Common.{◌≡◌, ℕ, true, false, List, refl, ap, inl, inr}
 use Rattle.std.specs.Prelude.{Ok, Err, Option, None, Some, is_some}
 use Rattle.dmn_block.specs.declared.frame.BlockFrame.{BlockFrame}
-use Rattle.dmn_branch.specs.Machine.{MachineState, tip, profile as profile_of, without_tip}
+use Rattle.dmn_branch.specs.Machine.{MachineState, begun, tip, profile as profile_of, without_tip}
 use Rattle.dmn_branch.specs.Stands.{Keeping, StandsFor}
 use Rattle.dmn_branch.specs.declared.fault.DisconnectRefusal.{DisconnectRefusal}
 use Rattle.dmn_branch.specs.declared.tip.Tip.{Tip}
@@ -19,7 +19,7 @@ use Rattle.dmn_desk.specs.declared.answer.Answer.{Answer}
 use Rattle.dmn_desk.specs.declared.answer.Answer.TheVariants.{Short}
 use Rattle.dmn_desk.specs.declared.request.Request.{Request}
 use Rattle.dmn_desk.specs.declared.request.Request.TheVariants as requests
-use Rattle.dmn_desk.specs.Ask.{ask, at_height, begun, members_by, members_or_none, connect, disconnect, list_at, not_back, shortly, started_by, tip_of, members_at, payees_at, quorums_at, row_at}
+use Rattle.dmn_desk.specs.Ask.{ask, at_height, members_by, members_or_none, connect, disconnect, list_at, not_back, shortly, started_by, tip_of, members_at, payees_at, quorums_at, row_at}
 use Rattle.dmn_desk.specs.Asked.{Answers, AnswersBlock, Begins, OrMemory, TakesBack}
 
 -- a start record is taken

@@ -1,7 +1,7 @@
 -- The answer of a machine to each request and to each frame, in the order of its checks, and the machine after it. Each is
 -- by what replay of the accepted commands holds (dmn_branch/specs/Machine.antt). Before its start record was taken there is
 -- no machine.
-use Rattle.std.specs.Prelude.{ℕ, ◌+◌, ◌==◌, List, [], length, nat_lt, if◌then◌else◌, Option, None, Some, Result, Ok, Err}
+use Rattle.std.specs.Prelude.{ℕ, ◌+◌, ◌==◌, List, length, nat_lt, if◌then◌else◌, is_some, Option, None, Some, Result, Ok, Err}
 use Rattle.dmn_block.specs.declared.frame.BlockFrame.{BlockFrame}
 use Rattle.dmn_block.specs.declared.refusal.Refusal.{Refusal}
 use Rattle.dmn_block.specs.State.{State}
@@ -9,7 +9,8 @@ use Rattle.dmn_branch.specs.declared.fault.DisconnectRefusal.{DisconnectRefusal}
 use Rattle.dmn_branch.specs.declared.fault.DisconnectRefusal.TheVariants as refusals
 use Rattle.dmn_branch.specs.Asked.{members_in, payees_of, quorums_in, row_of}
 use Rattle.dmn_branch.specs.Machine as machine
-use Rattle.dmn_branch.specs.Machine.{MachineState, is_held, low, state_at, tip, top}
+use Rattle.dmn_branch.specs.Machine.{MachineState, begun, is_held, low, state_at, tip, top}
+use Rattle.dmn_branch.specs.Pins.{Pinned, free_number, page_of, pin_of}
 use Rattle.dmn_bytes.specs.declared.fault.Departure.{Departure}
 use Rattle.dmn_bytes.specs.declared.hash.Hash256.{Hash256}
 use Rattle.dmn_bytes.specs.Format.{whole}
@@ -103,6 +104,26 @@ disconnected m (Err refusal) = (not_back refusal, m)
 unfoldable pub disconnect : MachineState → Hash256 → ShortAnswer × MachineState
 disconnect m hash = disconnected m (machine.disconnect m hash)
 
+-- a pin more, where there is a number for it
+abbrev pub pinned_by : MachineState → ℕ → Option ℕ → ShortAnswer × MachineState
+pinned_by m height None = (short.PinsFull, m)
+pinned_by m height (Some number) = (short.Pinned number, machine.pinned m number height)
+
+-- the height is held, and then the list of it is pinned
+unfoldable pub pin : MachineState → ℕ → ShortAnswer × MachineState
+pin m height = if is_held m height then pinned_by m height (free_number m.pins) else (short.NotHeld (low m) (tip m).height, m)
+
+abbrev pub page_by : ℕ → ℕ → Option Pinned → Answer
+page_by from count None = Short short.PinUnknown
+page_by from count (Some pin) = Grown (grown.Page (simple (page_of from count pin)))
+
+-- a part of a pinned list, as it was when it was pinned
+abbrev pub page : MachineState → ℕ → ℕ → ℕ → Answer
+page m number from count = page_by from count (pin_of m.pins number)
+
+unfoldable pub release : MachineState → ℕ → ShortAnswer × MachineState
+release m number = if is_some (pin_of m.pins number) then (short.Released, machine.released m number) else (short.PinUnknown, m)
+
 abbrev pub shortly : ShortAnswer × MachineState → Answer × MachineState
 shortly next = (Short next.0, next.1)
 
@@ -116,7 +137,10 @@ ask m (requests.Row height hash) = (row_at m height hash, m)
 ask m (requests.Payees height count) = (payees_at m height count, m)
 ask m (requests.Members kind base) = (members_at m kind base, m)
 ask m (requests.Quorums height) = (quorums_at m height, m)
-ask m request = (Short short.NotBuilt, m)
+ask m (requests.Pin height) = shortly (pin m height)
+ask m (requests.Page number from count) = (page m number from count, m)
+ask m (requests.Release number) = shortly (release m number)
+ask m (requests.Diff base block) = (Short short.NotBuilt, m)
 
 -- ---- frames
 
@@ -141,9 +165,6 @@ asked_kind m None body = (unknown, m)
 asked_kind m (Some kind) body = if is_built kind then asked_by m (request_of kind body) else (not_built, m)
 
 -- ---- before a start record was taken
-
-abbrev pub begun : StartRecord → MachineState
-begun start = record { start = start; commands = [] }
 
 unfoldable pub started_by : Result StartRecord Departure → Answer × Option MachineState
 started_by (Ok start) = (Short short.Started, Some (begun start))

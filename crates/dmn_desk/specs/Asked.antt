@@ -11,7 +11,7 @@ use Rattle.dmn_desk.specs.declared.answer.Answer.TheVariants.{Short}
 use Rattle.dmn_desk.specs.declared.answer.ShortAnswer.{ShortAnswer}
 use Rattle.dmn_desk.specs.declared.answer.ShortAnswer.TheVariants as short
 use Rattle.dmn_desk.specs.declared.request.Request.{Request}
-use Rattle.dmn_desk.specs.Ask.{ask, connect, disconnect, started_by}
+use Rattle.dmn_desk.specs.Ask.{ask, connect, disconnect, pin, release, started_by}
 use Rattle.dmn_desk.specs.Kinds.{takes_no_memory}
 use Rattle.dmn_desk.specs.Requests.{kind_by}
 
@@ -31,6 +31,14 @@ AnswersBlock block answer old new = (m : MachineState) → StandsFor old m → (
 -- and of the block that is taken back, which takes no memory
 abbrev pub TakesBack : Hash256 → ShortAnswer → Keeping → Keeping → Type 0
 TakesBack hash answer old new = (m : MachineState) → StandsFor old m → (n : MachineState) × StandsFor new n × (disconnect m hash ≡ (answer, n))
+
+-- a pin is made, or not
+abbrev pub PinsAt : ℕ → ShortAnswer → Keeping → Keeping → Type 0
+PinsAt height answer old new = (m : MachineState) → StandsFor old m → (n : MachineState) × StandsFor new n × OrMemory short.Memory false (pin m height) m answer n
+
+-- a pin is released, or not, which takes no memory
+abbrev pub Releases : ℕ → ShortAnswer → Keeping → Keeping → Type 0
+Releases number answer old new = (m : MachineState) → StandsFor old m → (n : MachineState) × StandsFor new n × (release m number ≡ (answer, n))
 
 -- ---- a start frame
 

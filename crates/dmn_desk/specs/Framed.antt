@@ -41,6 +41,10 @@ hashes_body hashes = to_le_bytes w16 (length hashes) ++ flat_map hash.text hashe
 unfoldable pub quorums_body : List Commitment → List ℕ
 quorums_body commitments = to_le_bytes w16 (length commitments) ++ flat_map commitment.text commitments
 
+-- the count of a page's entries, and their texts
+unfoldable pub page_body : List SmlEntry → List ℕ
+page_body entries = to_le_bytes w16 (length entries) ++ flat_map entry.text entries
+
 -- a transaction's place in its block, or all bits set where the rule names none
 abbrev pub place_or_none : Option ℕ → ℕ
 place_or_none None = 4294967295

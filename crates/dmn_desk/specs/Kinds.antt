@@ -32,7 +32,10 @@ is_built Row = true
 is_built Payees = true
 is_built Members = true
 is_built Quorums = true
-is_built kind = false
+is_built Diff = false
+is_built Pin = true
+is_built Page = true
+is_built Release = true
 
 -- how much of a body is read
 abbrev pub reading_of : Kind → Reading

@@ -7,8 +7,8 @@ use Rattle.dmn_desk.specs.declared.answer.Answer.TheVariants as answers
 use Rattle.dmn_desk.specs.declared.answer.GrownAnswer.{GrownAnswer}
 use Rattle.dmn_desk.specs.declared.answer.GrownAnswer.TheVariants as grown
 use Rattle.dmn_desk.specs.declared.answer.ShortAnswer.{ShortAnswer}
-use Rattle.dmn_desk.specs.declared.answer.ShortAnswer.TheVariants.{Started, Connected, Disconnected, Tip, Memory, BadRequest, NotHeld, Refused, NotTip, AtStart, TooDeep, NotBuilt, NoSuch}
-use Rattle.dmn_desk.specs.Framed.{framed, connected_body, tip_body, held_body, list_body, refused_body, most_items, hashes_body, quorums_body}
+use Rattle.dmn_desk.specs.declared.answer.ShortAnswer.TheVariants.{Started, Connected, Disconnected, Tip, Pinned, Released, PinsFull, PinUnknown, Memory, BadRequest, NotHeld, Refused, NotTip, AtStart, TooDeep, NotBuilt, NoSuch}
+use Rattle.dmn_desk.specs.Framed.{framed, connected_body, tip_body, held_body, list_body, refused_body, most_items, hashes_body, page_body, quorums_body}
 use Rattle.dmn_payloads.specs.declared.commitment.Commitment.{Commitment}
 use Rattle.dmn_rows.specs.RowText.{row_text}
 
@@ -17,10 +17,14 @@ short_status Started = 0
 short_status (Connected height hash) = 0
 short_status (Disconnected height hash) = 0
 short_status (Tip height hash low top) = 0
+short_status (Pinned pin) = 0
+short_status Released = 0
 short_status Memory = 1
 short_status (BadRequest at) = 2
 short_status (NotHeld low high) = 3
 short_status NoSuch = 4
+short_status PinsFull = 6
+short_status PinUnknown = 7
 short_status (Refused refusal) = 8
 short_status (NotTip tip) = 9
 short_status AtStart = 10
@@ -32,10 +36,14 @@ short_body Started = []
 short_body (Connected height hash) = connected_body height hash
 short_body (Disconnected height hash) = connected_body height hash
 short_body (Tip height hash low top) = tip_body height hash low top
+short_body (Pinned pin) = to_le_bytes w32 pin
+short_body Released = []
 short_body Memory = []
 short_body (BadRequest at) = to_le_bytes w32 at
 short_body (NotHeld low high) = held_body low high
 short_body NoSuch = []
+short_body PinsFull = []
+short_body PinUnknown = []
 short_body (Refused refusal) = refused_body refusal
 short_body (NotTip tip) = tip.0
 short_body AtStart = []
@@ -48,6 +56,7 @@ grown_body (grown.Row r) = row_text r.penalty_at r
 grown_body (grown.Payees hashes) = hashes_body hashes
 grown_body (grown.Members hashes) = hashes_body hashes
 grown_body (grown.Quorums commitments) = quorums_body commitments
+grown_body (grown.Page entries) = page_body entries
 
 -- an answer that grows is always an Ok
 abbrev pub status_of : Answer → ℕ
@@ -83,6 +92,7 @@ IsBounded (answers.Grown (grown.Row r)) = Unit {0}
 IsBounded (answers.Grown (grown.Payees hashes)) = length hashes ≤ most_items
 IsBounded (answers.Grown (grown.Members hashes)) = length hashes ≤ most_items
 IsBounded (answers.Grown (grown.Quorums commitments)) = IsSendable commitments
+IsBounded (answers.Grown (grown.Page entries)) = length entries ≤ most_items
 
 -- the length of the body fits its field
 abbrev pub Fits : Answer → Type 0

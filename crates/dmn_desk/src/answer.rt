@@ -37,6 +37,12 @@ pub enum ShortAnswer {
         low: u32,
         top: u32,
     },
+    /// The list is pinned, under this number.
+    Pinned {
+        pin: u32,
+    },
+    /// The pin is released.
+    Released,
     /// There was no memory, and nothing changed.
     Memory,
     /// The frame is not in its form, at this place, counted from its first byte.
@@ -51,6 +57,10 @@ pub enum ShortAnswer {
     /// There is no such masternode in the list of a height that is held; or no such type of quorum, or no base of it at such a
     /// height.
     NoSuch,
+    /// As many pins are live as may be, or the last number was given.
+    PinsFull,
+    /// No live pin has the number.
+    PinUnknown,
     /// The block is refused by a rule, which a transaction breaks.
     Refused(Refusal),
     /// The last block has another hash, which is this.
@@ -87,4 +97,6 @@ pub enum GrownAnswer {
     /// The commitments of the active quorums: by their types, and of one type the oldest first. Their count and the length
     /// of their texts fit the fields of a frame.
     Quorums(Items<Commitment>),
+    /// A part of a pinned list, as the entries of its rows. They are at most 65,535.
+    Page(Items<SmlEntry>),
 }

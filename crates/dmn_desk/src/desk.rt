@@ -12,7 +12,9 @@ ghost use Rattle.dmn_desk.specs.Texts.{IsBounded};
 use crate::answer::{Answer, ShortAnswer};
 use crate::list::list_at;
 use crate::members::members_at;
+use crate::page::page_at;
 use crate::payees::payees_at;
+use crate::pins::{pin, release};
 use crate::quorums::quorums_at;
 use crate::request::Request;
 use crate::row::row_at;
@@ -113,10 +115,15 @@ impl Desk {
                 Ok(answer) => answer,
                 Err(_) => Answer::Short(ShortAnswer::Memory),
             },
-            Request::Diff { .. }
-            | Request::Pin { .. }
-            | Request::Page { .. }
-            | Request::Release { .. } => Answer::Short(ShortAnswer::NotBuilt),
+            Request::Pin { height } => Answer::Short(pin(branch, *height)),
+            Request::Page { pin, from, count } => {
+                match page_at(alloc, branch, *pin, *from, *count) {
+                    Ok(answer) => answer,
+                    Err(_) => Answer::Short(ShortAnswer::Memory),
+                }
+            }
+            Request::Release { pin } => Answer::Short(release(branch, *pin)),
+            Request::Diff { .. } => Answer::Short(ShortAnswer::NotBuilt),
         }
     }
 }

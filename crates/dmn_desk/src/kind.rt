@@ -57,8 +57,11 @@ impl Kind {
             | Kind::Row
             | Kind::Payees
             | Kind::Members
-            | Kind::Quorums => true,
-            Kind::Diff | Kind::Pin | Kind::Page | Kind::Release => false,
+            | Kind::Quorums
+            | Kind::Pin
+            | Kind::Page
+            | Kind::Release => true,
+            Kind::Diff => false,
         }
     }
 

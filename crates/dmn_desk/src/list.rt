@@ -23,7 +23,7 @@ use dmn_sml::{SmlEntry, entry_of};
 use std::alloc::Global;
 
 /// The bytes of an entry's text.
-const ENTRY: usize = 151;
+pub const ENTRY: usize = 151;
 
 /// The bytes of a list's body before its entries: height, hash, root and count.
 const FIELDS: usize = 72;
@@ -46,8 +46,8 @@ fn field_lengths(entry: SmlEntry)
     let _voting = entry.voting;
 }
 
-// Each entry's text has as many bytes.
-fn entry_lengths(entries: &[SmlEntry])
+/// Each entry's text has as many bytes.
+pub fn entry_lengths(entries: &[SmlEntry])
     ensures { length (flat_map entry.text entries.now) ≡ 151 * length entries.now }
 {
     for entry in entries {
@@ -79,8 +79,8 @@ pub fn feed_list<S: Sink>(
     feed_many(entries, sink);
 }
 
-// Adds the simplified entry of a row.
-fn add_entry(entries: &mut Vec<SmlEntry>, row: &MnRow) -> Result<(), Memory>
+/// Adds the simplified entry of a row.
+pub fn add_entry(entries: &mut Vec<SmlEntry>, row: &MnRow) -> Result<(), Memory>
     ensures { OnOk result (entries.new.items ≡ entries.old.items ++ entry_of row.now ∷ []) }
 {
     entries.push(entry_of(row)).map_err(|_| Memory)

@@ -9,6 +9,7 @@ use crate::body::{
 };
 use crate::hashes::feed_hashes;
 use crate::list::feed_list;
+use crate::page::feed_page;
 use crate::quorums::feed_quorums;
 use crate::row::put_row;
 use crate::short::Short;
@@ -23,11 +24,15 @@ impl ShortAnswer {
             ShortAnswer::Started
             | ShortAnswer::Connected { .. }
             | ShortAnswer::Disconnected { .. }
-            | ShortAnswer::Tip { .. } => 0,
+            | ShortAnswer::Tip { .. }
+            | ShortAnswer::Pinned { .. }
+            | ShortAnswer::Released => 0,
             ShortAnswer::Memory => 1,
             ShortAnswer::BadRequest { .. } => 2,
             ShortAnswer::NotHeld { .. } => 3,
             ShortAnswer::NoSuch => 4,
+            ShortAnswer::PinsFull => 6,
+            ShortAnswer::PinUnknown => 7,
             ShortAnswer::Refused(_) => 8,
             ShortAnswer::NotTip { .. } => 9,
             ShortAnswer::AtStart => 10,
@@ -43,8 +48,11 @@ impl ShortAnswer {
     {
         match self {
             ShortAnswer::Started
+            | ShortAnswer::Released
             | ShortAnswer::Memory
             | ShortAnswer::NoSuch
+            | ShortAnswer::PinsFull
+            | ShortAnswer::PinUnknown
             | ShortAnswer::AtStart
             | ShortAnswer::NotBuilt => empty_body(),
             ShortAnswer::Connected { height, hash } | ShortAnswer::Disconnected { height, hash } =>
@@ -55,6 +63,7 @@ impl ShortAnswer {
                 low,
                 top,
             } => tip_body(*height, hash, *low, *top),
+            ShortAnswer::Pinned { pin } => number_body(*pin),
             ShortAnswer::BadRequest { at } => number_body(*at),
             ShortAnswer::NotHeld { low, high } => held_body(*low, *high),
             ShortAnswer::Refused(refusal) => refused_body(refusal),
@@ -101,6 +110,11 @@ impl GrownAnswer {
             GrownAnswer::Quorums(commitments) => {
                 let mut draft = Draft::on(out);
                 feed_quorums(commitments.as_slice(), &mut draft);
+                draft.finish(out)
+            }
+            GrownAnswer::Page(entries) => {
+                let mut draft = Draft::on(out);
+                feed_page(entries.as_slice(), &mut draft);
                 draft.finish(out)
             }
         }

@@ -36,7 +36,7 @@ ask_grows m (requests.Members kind base) h = (refl, refl)
 ask_grows m (requests.Quorums height) h = (refl, refl)
 ask_grows m (requests.Diff base block) h = absurd (cc)
 ask_grows m (requests.Pin height) h = absurd (cc)
-ask_grows m (requests.Page pin from count) h = absurd (cc)
+ask_grows m (requests.Page pin from count) h = (refl, refl)
 ask_grows m (requests.Release pin) h = absurd (cc)
 
 read_grows : (m : MachineState) (kind : Kind) (r : Result Request Departure) → ((request : Request) → r ≡ Ok request → kind_by request ≡ kind) → Grows (takes_no_memory (Some kind)) m (asked_by m r)

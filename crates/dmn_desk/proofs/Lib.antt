@@ -2,6 +2,7 @@ pub mod Listing
 mod Heights
 mod Hashing
 mod Sending
+mod Paging
 mod Rowing
 pub mod Bodies
 pub mod Asking

@@ -41,7 +41,7 @@ pub fn feed_page<S: Sink>(entries: &[SmlEntry], sink: &mut S)
 // The simplified entries of rows that are lent.
 fn entries_of(alloc: Global, pairs: Pairs<'_, Hash256, MnRow>) -> Result<Items<SmlEntry>, Memory>
     requires { IsReady hash_cmp pairs }
-    ensures { IfOk result (λ entries. entries ≡ simple (values (pairs_left pairs))) }
+    ensures { IfOk result (λ entries. entries ≡ simple (values (pairs_left pairs.entry))) }
 {
     let mut entries = Vec::new(alloc);
     for (_, row) in pairs {

@@ -9,8 +9,7 @@ A stream is a line 'run feed' with lines 'in BYTES', 'out BYTES' and 'code N' be
 The model answers for one stage, the program for what is built of it. Two things are put right, and neither changes another
 answer of the stream:
 
-- A request of a kind that the program does not build yet is sent, and NotBuilt is wanted. Of these kinds Diff only asks, and
-  what Pin, Page and Release change is seen by these kinds alone.
+- A request of a kind that the program does not build yet is sent, and NotBuilt is wanted: Diff, which only asks.
 - A request that the model answers NotBuilt, behind the start, though the program builds its kind, is left out: NotBuilt
   changes nothing.
 
@@ -20,8 +19,8 @@ import collections
 import subprocess
 import sys
 
-# Diff, Pin, Page, Release. A stage that builds one takes it away here.
-LACKING = {9, 10, 11, 12}
+# Diff. A stage that builds it takes it away here.
+LACKING = {9}
 START = 32
 NOT_BUILT = bytes([13, 0, 0, 0, 0])
 LONGEST = 16_777_216

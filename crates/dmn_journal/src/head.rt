@@ -9,7 +9,7 @@ ghost use Rattle.dmn_journal.specs.Reads.{Heads, IsPrefix, Prefixes};
 ghost use Rattle.dmn_journal.specs.Sure.{NeverFails};
 
 use crate::fault::JournalFault;
-use crate::making::MAGIC;
+use crate::limits::MAGIC;
 use crate::text::{read_front, read_text, size_of};
 use dmn_outside::{Disk, Failed};
 use dmn_rows::{StartFault, StartRecord, read_start};

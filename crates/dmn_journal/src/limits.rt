@@ -1,5 +1,8 @@
 //! The numbers of a journal.
 
+/// What stands behind a journal's first gate.
+pub const MAGIC: [u8; 7] = *b"DMNJ001";
+
 /// The kind of a record whose body is that of a Connect.
 pub const CONNECT: u8 = 1;
 

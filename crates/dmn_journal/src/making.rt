@@ -9,10 +9,8 @@ ghost use Rattle.dmn_outside.specs.Failing.{DoesSurely, KeepsDisk};
 ghost use Rattle.dmn_journal.specs.Create.{HoldsText, IsBlank, IsBlankDisk, IsBlankOrMade, behind_gate};
 ghost use Rattle.dmn_journal.specs.Journal.{magic};
 
+use crate::limits::MAGIC;
 use dmn_outside::{Disk, DiskFault, Failed, cut_synced, write_synced, write_three_synced};
-
-/// What stands behind a journal's first gate: DMNJ001.
-pub const MAGIC: [u8; 7] = *b"DMNJ001";
 
 // The magic and the length of the start record.
 fn front_of(len: u32) -> [u8; 11]

@@ -4,4 +4,5 @@ pub mod Unique
 mod Pieces
 mod Heads
 pub mod Found
+pub mod Texts
 mod Formats

@@ -1,6 +1,6 @@
 //! Laws about the definitions.
 
-ghost use Rattle.dmn_journal.specs.Laws.{CommandsOnce, EntriesAreByTheirFormat, OthersAreClosed, RecordsAreFound};
+ghost use Rattle.dmn_journal.specs.Laws.{CommandsOnce, EntriesAreByTheirFormat, JournalsHaveTheirCommands, MadeIsAJournal, OthersAreClosed, RecordsAreFound};
 
 /// A file has its commands once.
 pub fn commands_once()
@@ -20,4 +20,14 @@ pub fn others_are_closed()
 /// What a record's length counts departs where it departs from the format of kind and body.
 pub fn entries_are_by_their_format()
     ensures { EntriesAreByTheirFormat }
+{}
+
+/// The text of a journal has its commands.
+pub fn journals_have_their_commands()
+    ensures { JournalsHaveTheirCommands }
+{}
+
+/// What is made is the text of a journal without commands.
+pub fn made_is_a_journal()
+    ensures { MadeIsAJournal }
 {}

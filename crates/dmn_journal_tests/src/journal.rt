@@ -38,19 +38,17 @@ fn count(alloc: Global, journal: &[u8]) -> Result<Result<u64, JournalFault>, Fai
         Ok((_, gate)) => gate,
         Err(fault) => return Ok(Err(fault)),
     };
-    let mut records = 0;
-    for _ in 0..10 {
+    for records in 0..10 {
         if gate >= 1 << 40 {
             break;
         }
         match next(alloc, &mut disk, gate) {
             Ok(Some((_, behind))) => gate = behind,
-            Ok(None) => break,
+            Ok(None) => return Ok(Ok(records)),
             Err(fault) => return Ok(Err(fault)),
         }
-        records += 1;
     }
-    Ok(Ok(records))
+    Ok(Ok(10))
 }
 
 // A journal with a disconnect and a record of kind 1.

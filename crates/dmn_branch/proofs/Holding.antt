@@ -175,6 +175,7 @@ left_stands {old} {new} m left read sound stands =
       profile = left.profile ∙ stands.profile;
       first = left.first ∙ stands.first;
       lists = lists;
+      coinbases = left.coinbases ∙ stands.coinbases;
       trees = all_trees new.indexes new.mined new.held (held_states m) sound.versions (subst (λ (l : List Kept). AllStand l (held_states m)) read lists);
       top = left.top ∙ stands.top;
       lawful = stands.lawful;
@@ -183,7 +184,7 @@ left_stands {old} {new} m left read sound stands =
     }
 
 pub left_none : (b : Keeping) → IsLeft b b
-left_none b = record { profile = refl; first = refl; held = refl; lists = refl; top = refl; pinned = refl; pins = refl }
+left_none b = record { profile = refl; first = refl; held = refl; lists = refl; coinbases = refl; top = refl; pinned = refl; pins = refl }
 
 pub sound_none : (ix : Indexes) (mined : List MinedAt) → AreSound ix mined []
 sound_none ix mined = record {
@@ -221,16 +222,16 @@ ok_from (Err e) none p = cc
 pub some_is : {A : Type 0} (o : Option A) (x y : A) → o ≡ Some x → o ≡ Some y → x ≡ y
 some_is o x y a b = ap (λ (p : Option _). unwrap_or p x) (sym a ∙ b)
 
--- the versions without the last one, by what a pop leaves
-pub record IsPopped (old new : List Held) : Type 0 where
-  pub last : Held
+-- all without the last one, by what a pop leaves
+pub record IsPopped {X : Type 0} (old new : List X) : Type 0 where
+  pub last : X
   pub items : old ≡ new ++ last ∷ []
 
-popped : (old new : List Held) → new ≡ take (length old - 1) old → 0 < length old → IsPopped old new
+pub popped : {X : Type 0} → (old new : List X) → new ≡ take (length old - 1) old → 0 < length old → IsPopped old new
 popped old new is some =
     let parts = split old some in
-    let same : new ≡ parts.before = is ∙ ap (λ (l : List Held). take (length l - 1) l) parts.is ∙ without_last parts.before parts.last in
-    record { last = parts.last; items = parts.is ∙ ap (λ (l : List Held). l ++ parts.last ∷ []) (sym same) }
+    let same : new ≡ parts.before = is ∙ ap (λ (l : List _). take (length l - 1) l) parts.is ∙ without_last parts.before parts.last in
+    record { last = parts.last; items = parts.is ∙ ap (λ (l : List _). l ++ parts.last ∷ []) (sym same) }
 
 -- what a pop leaves of what is held is sound, and its lists are those of before without the last one
 pub record IsLessOn (ix : Indexes) (mined : List MinedAt) (old new : List Held) : Type 0 where

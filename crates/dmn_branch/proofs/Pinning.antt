@@ -202,6 +202,7 @@ repinned old new m pins is same numbered stands =
       profile = stands.profile;
       first = stands.first;
       lists = stands.lists;
+      coinbases = stands.coinbases;
       trees = stands.trees;
       top = stands.top;
       lawful = stands.lawful;

@@ -4,20 +4,23 @@ use Rattle.std.specs.Prelude.{slice_get, IfSome, ◌≤◌, Ok, Err}
 use Rattle.std.proofs.lemmas.Bool.{eq-eqb, ne_eqb, le-leb, lt-leb}
 use Rattle.std.specs.Option.{option_map}
 use Rattle.std.specs.Str.{bytes_eq}
-use Rattle.std.proofs.lemmas.List.{length-drop, length-map, drop-append-le}
+use Rattle.std.proofs.lemmas.Option.{slice_get-map}
+use Rattle.std.proofs.lemmas.List.{length-drop, length-map, drop-append-le, drop-map, map-append}
 use Rattle.dmn_block.specs.declared.frame.BlockFrame.{BlockFrame}
 use Rattle.dmn_block.specs.State.{State, origin}
 use Rattle.dmn_bytes.specs.declared.hash.Hash256.{Hash256}
 use Rattle.dmn_rows.specs.declared.profile.Profile.{Profile}
 use Rattle.dmn_rows.specs.Row.{plain}
 use Rattle.dmn_branch.specs.declared.fault.DisconnectRefusal.TheVariants.{NotTip, AtStart, TooDeep}
-use Rattle.dmn_branch.specs.Asked.{told, Lent, Lends}
+use Rattle.dmn_branch.specs.Asked.{told, IsToldOf, Lent, Lends}
 use Rattle.dmn_branch.specs.Step.{last_of}
 use Rattle.dmn_branch.specs.Machine as machine
 use Rattle.dmn_branch.specs.Machine.{MachineState, disconnect, history, held_states, tip, state_at, with_block, without_tip}
 use Rattle.dmn_branch.specs.Parts.{StandsIn}
 use Rattle.dmn_branch.specs.Replay.{IsLawful}
-use Rattle.dmn_branch.specs.Stands.{Kept, Keeping, StandsAt, AllStand, AreSound, StandsFor, IsNext, AreFrom, IsKept, IsAboveFloor, kept_in, low_of, low_kept}
+use Rattle.dmn_branch.specs.Coinbases.{coinbase_of}
+use Rattle.dmn_branch.specs.declared.coinbase.CoinbasePart.{CoinbasePart}
+use Rattle.dmn_branch.specs.Stands.{Kept, Keeping, Next, StandsAt, AllStand, AreSound, StandsFor, IsNext, AreFrom, IsKept, IsAboveFloor, kept_in, low_of, low_kept}
 use Rattle.dmn_branch.proofs.Holding.{all_trees}
 use Rattle.dmn_branch.proofs.Replaying.{history_next, lawful_next, top_more, taken_back}
 
@@ -137,15 +140,32 @@ got (y ∷ xs) (suc n) x lt is = got xs n x (omega (arith, lt)) is
 held_place : (height first low : ℕ) → first ≤ low → low ≤ height → low - first + (height - low) ≡ height - first
 held_place height first low one two = omega (arith, one, two)
 
+-- the state of a height that is held, among those that are held
+state_held : (branch : Keeping) (m : MachineState) (height : ℕ) → StandsFor branch m → low_kept branch ≤ height → state_at m height ≡ slice_get (held_states m) (height - low_kept branch)
+state_held branch m height stands held =
+    let low = low_is branch m stands in
+    let place : below m + (height - low_kept branch) ≡ height - (m.start.first - 1) =
+    ap (λ (n : ℕ). below m + (height - n)) low ∙ held_place height (m.start.first - 1) (machine.low m) (omega arith) (omega (arith, low, held)) in
+    ap (slice_get (history m)) (sym place) ∙ sym (get_drop (history m) (below m) (height - low_kept branch))
+
 -- what is held of a height stands for the state of that height
 pub held_stands : (branch : Keeping) (m : MachineState) (height : ℕ) (k : Kept) → StandsFor branch m → low_kept branch ≤ height → slice_get branch.lists (height - low_kept branch) ≡ Some k → StandsIn k (state_at m height)
 held_stands branch m height k stands held is =
-    let low = low_is branch m stands in
     let found = stands_at branch.lists (held_states m) (height - low_kept branch) k stands.lists is in
-    let place : below m + (height - low_kept branch) ≡ height - (m.start.first - 1) =
-    ap (λ (n : ℕ). below m + (height - n)) low ∙ held_place height (m.start.first - 1) (machine.low m) (omega arith) (omega (arith, low, held)) in
-    let there : state_at m height ≡ Some found.0 = ap (slice_get (history m)) (sym place) ∙ sym (get_drop (history m) (below m) (height - low_kept branch)) ∙ found.1 in
+    let there : state_at m height ≡ Some found.0 = state_held branch m height stands held ∙ found.1 in
     rw there found.2
+
+-- and what is held of its coinbase is that state's
+pub tells_coinbase : (branch : Keeping) (m : MachineState) (height : ℕ) (proof told : Option CoinbasePart) → StandsFor branch m → low_kept branch ≤ height → slice_get branch.coinbases (height - low_kept branch) ≡ Some proof → told ≡ proof → IsToldOf coinbase_of told (state_at m height)
+tells_coinbase branch m height proof told stands held is same =
+    let at = height - low_kept branch in
+    let mapped : option_map coinbase_of (slice_get (held_states m) at) ≡ Some proof =
+    sym (slice_get-map coinbase_of (held_states m) at) ∙ ap (λ (l : List (Option CoinbasePart)). slice_get l at) (sym stands.coinbases) ∙ is in
+    subst (IsToldOf coinbase_of told) (sym (state_held branch m height stands held)) (go (slice_get (held_states m) at) mapped)
+  where
+    go : (o : Option State) → option_map coinbase_of o ≡ Some proof → IsToldOf coinbase_of told o
+    go None e = absurd cc
+    go (Some state) e = let is : coinbase_of state ≡ proof = cc in same ∙ sym is
 
 pub lent_is : (k : Kept) (lent : Lent) (found : Option State) → StandsIn k found → lent ≡ record { hash = k.hash; root = k.root; size = length k.rows; rows = k.rows } → Lends lent found
 lent_is k lent None at same = absurd at
@@ -173,11 +193,12 @@ stands_drop (suc n) (x ∷ lists) [] all = absurd all
 stands_drop (suc n) (x ∷ lists) (s ∷ states) all = stands_drop n lists states all.1
 
 -- a branch with the list that was prepared, from its own lowest height on
-pub record IsAdded (old new : Keeping) (prepared : Kept) : Type 0 where
+pub record IsAdded (old new : Keeping) (prepared : Next) : Type 0 where
   pub profile : new.profile ≡ old.profile
   pub first : new.first ≡ old.first
-  pub lists : new.lists ≡ drop (low_kept new - low_kept old) (old.lists ++ prepared ∷ [])
-  pub top : new.top ≡ max old.top prepared.height
+  pub lists : new.lists ≡ drop (low_kept new - low_kept old) (old.lists ++ prepared.kept ∷ [])
+  pub coinbases : new.coinbases ≡ drop (low_kept new - low_kept old) (old.coinbases ++ prepared.coinbase ∷ [])
+  pub top : new.top ≡ max old.top prepared.kept.height
   pub pins : new.pins ≡ old.pins
 
 low_up : (first kept top more : ℕ) → max first (top - kept) ≤ max first (max top more - kept)
@@ -186,14 +207,14 @@ low_up first kept top more = omega arith
 gone : (first low more : ℕ) → first ≤ low → low ≤ more → low - first + (more - low) ≡ more - first
 gone first low more one two = omega (arith, one, two)
 
-pub stands_next : (old new : Keeping) (prepared : Kept) (m : MachineState) (block : BlockFrame) → IsAdded old new prepared → 0 < length old.lists → new.lists ≡ map (kept_in new.indexes new.mined) new.held → AreSound new.indexes new.mined new.held → StandsFor old m → IsNext prepared m block → StandsFor new (with_block m block)
+pub stands_next : (old new : Keeping) (prepared : Next) (m : MachineState) (block : BlockFrame) → IsAdded old new prepared → 0 < length old.lists → new.lists ≡ map (kept_in new.indexes new.mined) new.held → AreSound new.indexes new.mined new.held → StandsFor old m → IsNext prepared m block → StandsFor new (with_block m block)
 stands_next old new prepared m block added some read sound stands next =
     let n = with_block m block in
     let one = tip n ∷ [] in
     let by = low_kept new - low_kept old in
     let profile : new.profile ≡ machine.profile n = added.profile ∙ stands.profile in
     let first : new.first ≡ n.start.first = added.first ∙ stands.first in
-    let top : new.top ≡ machine.top n = added.top ∙ ap (λ (t : ℕ). max t prepared.height) stands.top ∙ ap (λ (t : ℕ). max (machine.top m) t) next.stands.height ∙ sym (top_more m block) in
+    let top : new.top ≡ machine.top n = added.top ∙ ap (λ (t : ℕ). max t prepared.kept.height) stands.top ∙ ap (λ (t : ℕ). max (machine.top m) t) next.stands.height ∙ sym (top_more m block) in
     let low = low_is old m stands in
     let more = low_same new n profile first top in
     let up : machine.low m ≤ machine.low n = subst (λ (t : ℕ). machine.low m ≤ max (m.start.first - 1) (t - (machine.profile m).kept)) (sym (top_more m block)) (low_up (m.start.first - 1) (machine.profile m).kept (machine.top m) (tip n).height) in
@@ -206,12 +227,20 @@ stands_next old new prepared m block added some read sound stands next =
     ∙ ap (drop (below n)) (sym (history_next m block n next.accepted)) in
     let all : AllStand new.lists (held_states n) =
     subst (λ (l : List Kept). AllStand l (held_states n)) (sym added.lists)
-    (subst (AllStand (drop by (old.lists ++ prepared ∷ []))) states
-    (stands_drop by (old.lists ++ prepared ∷ []) (held_states m ++ one) (stands_more old.lists (held_states m) prepared (tip n) stands.lists next.stands))) in
+    (subst (AllStand (drop by (old.lists ++ prepared.kept ∷ []))) states
+    (stands_drop by (old.lists ++ prepared.kept ∷ []) (held_states m ++ one) (stands_more old.lists (held_states m) prepared.kept (tip n) stands.lists next.stands))) in
+    let coinbases : new.coinbases ≡ map coinbase_of (held_states n) =
+    added.coinbases
+    ∙ ap (λ (l : List (Option CoinbasePart)). drop by (l ++ prepared.coinbase ∷ [])) stands.coinbases
+    ∙ ap (λ (p : Option CoinbasePart). drop by (map coinbase_of (held_states m) ++ p ∷ [])) next.coinbase
+    ∙ ap (drop by) (sym (map-append coinbase_of (held_states m) one))
+    ∙ drop-map coinbase_of by (held_states m ++ one)
+    ∙ ap (map coinbase_of) states in
     record {
       profile = profile;
       first = first;
       lists = all;
+      coinbases = coinbases;
       trees = all_trees new.indexes new.mined new.held (held_states n) sound.versions (subst (λ (l : List Kept). AllStand l (held_states n)) read all);
       top = top;
       lawful = lawful_next m block n next.accepted stands.lawful;
@@ -235,8 +264,21 @@ pub record IsLess (old new : Keeping) : Type 0 where
   pub first : new.first ≡ old.first
   pub last : Kept
   pub lists : old.lists ≡ new.lists ++ last ∷ []
+  pub coinbase : Option CoinbasePart
+  pub coinbases : old.coinbases ≡ new.coinbases ++ coinbase ∷ []
   pub top : new.top ≡ old.top
   pub pins : new.pins ≡ old.pins
+
+front_same : {X : Type 0} → (xs ys : List X) (x y : X) → xs ++ x ∷ [] ≡ ys ++ y ∷ [] → xs ≡ ys
+front_same [] [] x y is = refl
+front_same [] (b ∷ []) x y is = absurd cc
+front_same [] (b ∷ c ∷ ys) x y is = absurd cc
+front_same (a ∷ []) [] x y is = absurd cc
+front_same (a ∷ c ∷ xs) [] x y is = absurd cc
+front_same (a ∷ xs) (b ∷ ys) x y is =
+    let same : a ≡ b = cc in
+    let rest : xs ++ x ∷ [] ≡ ys ++ y ∷ [] = cc in
+    rw (same, front_same xs ys x y rest) refl
 
 blocks_some : (m : MachineState) → IsLawful m.start (machine.branch m) → 1 < length (history m) → 0 < length (machine.branch m)
 unfolding history
@@ -259,10 +301,13 @@ stands_back old new m hash less some read sound stands =
     let both : AllStand (new.lists ++ less.last ∷ []) (held_states n ++ one) =
     subst (AllStand (new.lists ++ less.last ∷ [])) states (subst (λ (l : List Kept). AllStand l (held_states m)) less.lists stands.lists) in
     let all : AllStand new.lists (held_states n) = stands_less new.lists (held_states n) less.last back.last both in
+    let coinbases : new.coinbases ++ less.coinbase ∷ [] ≡ map coinbase_of (held_states n) ++ coinbase_of back.last ∷ [] =
+    sym less.coinbases ∙ stands.coinbases ∙ ap (map coinbase_of) states ∙ map-append coinbase_of (held_states n) one in
     record {
       profile = less.profile ∙ stands.profile;
       first = less.first ∙ stands.first;
       lists = all;
+      coinbases = front_same new.coinbases (map coinbase_of (held_states n)) less.coinbase (coinbase_of back.last) coinbases;
       trees = all_trees new.indexes new.mined new.held (held_states n) sound.versions (subst (λ (l : List Kept). AllStand l (held_states n)) read all);
       top = top;
       lawful = back.lawful;

@@ -1,5 +1,5 @@
 -- A branch without blocks.
-use Rattle.std.proofs.Common.{◌≡◌, ◌-◌, ◌≤◌, false, length, List, [], ◌∷◌, map, refl, subst, arith, ℕ, max, drop, true, ◌==◌, Bool, cond, sym, ap}
+use Rattle.std.proofs.Common.{◌≡◌, ◌-◌, ◌≤◌, false, length, List, [], ◌∷◌, map, refl, subst, arith, ℕ, max, drop, true, ◌==◌, Bool, cond, None, sym, ap, ◌∙◌}
 use Rattle.std.specs.List.{AllByRecursion}
 use Rattle.std.proofs.lemmas.Bool.{not-true}
 use Rattle.dmn_block.specs.State.{origin}
@@ -15,6 +15,7 @@ use Rattle.dmn_quorums.specs.Duty.{types_of}
 use Rattle.dmn_branch.specs.Step.{profile_of}
 use Rattle.dmn_branch.specs.Machine.{MachineState, begun, held_states, history, top}
 use Rattle.dmn_branch.specs.Pins.{no_pins}
+use Rattle.dmn_branch.specs.Coinbases.{coinbase_of}
 use Rattle.dmn_branch.specs.Stands.{Kept, Keeping, AllStand, AreSound, HoldsBase, IsWhole, IsKept, StandsAt, StandsFor, first_kept, kept_in}
 use Rattle.dmn_branch.proofs.Holding.{all_trees}
 
@@ -55,6 +56,7 @@ pub record IsBegun (branch : Keeping) (start : StartRecord) : Type 0 where
   pub profile : branch.profile ≡ profile_of start
   pub first : branch.first ≡ start.first
   pub lists : branch.lists ≡ first_kept start ∷ []
+  pub coinbases : branch.coinbases ≡ None ∷ []
   pub top : branch.top ≡ start.first - 1
   pub pins : branch.pins ≡ no_pins
 
@@ -110,6 +112,7 @@ start_stands branch start fits begins read sound =
       profile = begins.profile;
       first = begins.first;
       lists = lists;
+      coinbases = begins.coinbases ∙ ap (map coinbase_of) states;
       trees = all_trees branch.indexes branch.mined branch.held (held_states m) sound.versions (subst (λ (l : List Kept). AllStand l (held_states m)) read lists);
       top = begins.top;
       lawful = refl;

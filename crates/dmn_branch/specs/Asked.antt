@@ -13,6 +13,10 @@ use Rattle.dmn_rows.specs.Row.{plain}
 use Rattle.dmn_rows.specs.Rows.{has_hash, plain_rows}
 use Rattle.dmn_sml.specs.Defs.{root_of, simple}
 use Rattle.dmn_standing.specs.Payment.{forecast, payee_row}
+use denote.Ref.{Bor}
+use Rattle.dmn_merkle.specs.declared.branch.Branching.{Branching}
+use Rattle.dmn_tx.specs.declared.tx.Tx.{Tx}
+use Rattle.dmn_branch.specs.declared.coinbase.CoinbasePart.{CoinbasePart}
 use Rattle.dmn_branch.specs.declared.tip.Tip.{Tip}
 use Rattle.dmn_branch.specs.Pins.{Pinned, page_of}
 use Rattle.dmn_branch.specs.Machine.{MachineState, profile, tip, low, top}
@@ -54,6 +58,10 @@ row_of hash state = find (has_hash hash) state.rows
 -- who is paid next: of the rows that aren't banned the one whose turn is first
 abbrev pub payee_of : State → Option MnRow
 payee_of state = payee_row state.rows
+
+-- a transaction and a branch that are lent
+abbrev pub lent_part : Bor Tx × Bor Branching → CoinbasePart
+lent_part lent = record { tx = lent.0.now; branch = lent.1.now }
 
 -- the next payees, by their hashes
 abbrev pub payees_of : ℕ → State → List Hash256

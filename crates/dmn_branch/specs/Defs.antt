@@ -4,5 +4,6 @@
 --   Pins     lists that stay readable until they are released
 --   Machine  a start record, the commands that were accepted and the pins that are live; what is held of them, one block more,
 --            one less, and one pin more or less
+--   Coinbases  what proves a block's first transaction
 --   Stands   the relation of what a branch keeps to a machine; nothing else says how lists are kept
 -- The state itself, and what inputs and outputs do to it, stand in dmn_block; the rules on transactions in dmn_rules.

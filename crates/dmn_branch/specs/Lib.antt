@@ -5,6 +5,7 @@ pub mod Step
 pub mod Replay
 pub mod Pins
 pub mod Machine
+pub mod Coinbases
 pub mod Stands
 pub mod Asked
 pub mod Fault

@@ -10,6 +10,8 @@ use Rattle.dmn_indexes.specs.Marks.{IsBelow, marks_of}
 use Rattle.dmn_indexes.specs.Version.{by_hash, outputs_in, rows_in, values}
 use Rattle.dmn_indexes.specs.Version as versions
 use Rattle.dmn_indexes.specs.Stands as trees
+use Rattle.dmn_branch.specs.Coinbases.{coinbase_of}
+use Rattle.dmn_branch.specs.declared.coinbase.CoinbasePart.{CoinbasePart}
 use Rattle.dmn_branch.specs.declared.held.Held.{Held}
 use Rattle.dmn_branch.specs.declared.held.Prepared.{Prepared}
 use Rattle.dmn_branch.specs.declared.pins.Pin.{Pin}
@@ -61,8 +63,8 @@ abbrev pub pins_in : Indexes → List Pin → Option ℕ → Pins
 pins_in ix pinned next = record { live = map (pinned_in ix) pinned; next = next }
 
 -- what a branch keeps: the versions from the lowest height that is held on, the arenas in which they are held, the
--- commitments that were mined, the lists as which all this reads, how many more versions there is room for, and the pins,
--- with what these read as
+-- commitments that were mined, the lists as which all this reads, what proves the coinbase of each of these heights, how many
+-- more versions and coinbases there is room for, and the pins, with what these read as
 pub record Keeping : Type 0 where
   pub profile : Profile
   pub first : ℕ
@@ -70,8 +72,10 @@ pub record Keeping : Type 0 where
   pub held : List Held
   pub mined : List MinedAt
   pub lists : List Kept
+  pub coinbases : List (Option CoinbasePart)
   pub top : ℕ
   pub room : ℕ
+  pub coinbase_room : ℕ
   pub pinned : List Pin
   pub pins : Pins
 
@@ -111,22 +115,29 @@ AllTreesStand ix (held ∷ rest) (state ∷ states) = trees.StandsAt ix held.ver
 AllTreesStand ix [] (state ∷ states) = ⊥
 AllTreesStand ix (held ∷ rest) [] = ⊥
 
--- A branch stands for a machine: for the states that are held of it, the top, and the pins. No block of the machine's branch
+-- A branch stands for a machine: for the states that are held of it, with their coinbases, the top, and the pins. No block of the machine's branch
 -- is refused, and no number of a pin was given twice.
 pub record StandsFor (branch : Keeping) (m : MachineState) : Type 0 where
   pub profile : branch.profile ≡ profile m
   pub first : branch.first ≡ m.start.first
   pub lists : AllStand branch.lists (held_states m)
+  pub coinbases : branch.coinbases ≡ map coinbase_of (held_states m)
   pub trees : AllTreesStand branch.indexes branch.held (held_states m)
   pub top : branch.top ≡ top m
   pub lawful : IsLawful m.start (machine.branch m)
   pub pins : branch.pins ≡ m.pins
   pub numbered : AreNumbered m.pins
 
+-- what is kept of a height that was prepared, and what proves its coinbase
+pub record Next : Type 0 where
+  pub kept : Kept
+  pub coinbase : Option CoinbasePart
+
 -- what was prepared is the state after this block, which the machine accepts
-pub record IsNext (prepared : Kept) (m : MachineState) (block : BlockFrame) : Type 0 where
+pub record IsNext (prepared : Next) (m : MachineState) (block : BlockFrame) : Type 0 where
   pub accepted : connect m block ≡ Ok (with_block m block)
-  pub stands : StandsAt prepared (tip (with_block m block))
+  pub stands : StandsAt prepared.kept (tip (with_block m block))
+  pub coinbase : prepared.coinbase ≡ coinbase_of (tip (with_block m block))
 
 -- ---- of a branch alone
 
@@ -194,6 +205,7 @@ pub record IsLeft (old new : Keeping) : Type 0 where
   pub first : new.first ≡ old.first
   pub held : new.held ≡ old.held
   pub lists : new.lists ≡ old.lists
+  pub coinbases : new.coinbases ≡ old.coinbases
   pub top : new.top ≡ old.top
   pub pinned : new.pinned ≡ old.pinned
   pub pins : new.pins ≡ old.pins
@@ -219,14 +231,15 @@ floor_kept branch = max (branch.first - 1) (branch.top - branch.profile.depth)
 pub record IsAboveFloor (branch : Keeping) : Type 0 where
   pub above : floor_kept branch < tip_kept branch
 
--- the list of a version that was prepared in the arenas of a branch
-abbrev pub prepared_in : Keeping → Prepared → Kept
-prepared_in branch prepared = kept_in branch.indexes branch.mined prepared.next
+-- the list of a version that was prepared in the arenas of a branch, and the coinbase
+abbrev pub prepared_in : Keeping → Prepared → Next
+prepared_in branch prepared = record { kept = kept_in branch.indexes branch.mined prepared.next; coinbase = prepared.coinbase }
 
 -- The branch is as it was when this was prepared: it is the next version, and there is room for it.
 pub record IsReady (branch : Keeping) (prepared : Prepared) : Type 0 where
   pub next : prepared.next.height ≡ low_kept branch + length branch.lists
   pub room : 0 < branch.room
+  pub coinbase_room : 0 < branch.coinbase_room
   pub version : versions.IsWhole branch.indexes prepared.next.version
   pub marks : prepared.next.marks ≡ marks_of branch.indexes
-  pub whole : IsWhole (prepared_in branch prepared)
+  pub whole : IsWhole (prepared_in branch prepared).kept

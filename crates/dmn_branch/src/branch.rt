@@ -1,6 +1,6 @@
 //! A branch: the lists of the heights that are held, one block more, and one less.
 
-ghost use Rattle.std.specs.Prelude.{◌≡◌, ℕ, ◌*◌, ◌+◌, ◌-◌, ◌≤◌, ◌&&◌, ◌%◌, ◌^◌, ◌==◌, [], Some, IfOk, IfErr, IfSome, MatchBool, OnOk, OnErr, find, is_some, length, max, nat_le, slice_get, ◌<◌, Ok, Err, None, drop};
+ghost use Rattle.std.specs.Prelude.{◌≡◌, ℕ, ◌*◌, ◌+◌, ◌-◌, ◌≤◌, ◌&&◌, ◌%◌, ◌^◌, ◌==◌, [], Some, IfOk, IfErr, IfSome, MatchBool, OnOk, OnErr, find, is_some, length, max, nat_le, slice_get, ◌<◌, Ok, Err, None, drop, vec_capacity, vec_len};
 ghost use Rattle.std.specs.List.{AllByRecursion};
 ghost use Rattle.std.specs.Option.{option_copied, option_map};
 ghost use Rattle.std.specs.Str.{bytes_eq};
@@ -15,7 +15,8 @@ ghost use Rattle.dmn_rows.specs.declared.profile.Profile.{Profile};
 ghost use Rattle.dmn_rows.specs.Defs.{KeepsBounds};
 ghost use Rattle.dmn_rows.specs.Listing.{OutputsAscend};
 ghost use Rattle.dmn_rows.specs.Start.{start_record};
-ghost use Rattle.dmn_branch.specs.Asked.{told, IsPageOf, IsToldOf, Lends, members_in, payee_of, payees_of, quorums_in, row_of, seen_at};
+ghost use Rattle.dmn_branch.specs.Asked.{told, lent_part, IsPageOf, IsToldOf, Lends, members_in, payee_of, payees_of, quorums_in, row_of, seen_at};
+ghost use Rattle.dmn_branch.specs.Coinbases.{coinbase_of, part_of};
 ghost use Rattle.dmn_branch.specs.declared.held.Held.{Held};
 ghost use Rattle.dmn_branch.specs.Fault.{Tells, TellsFull, TellsRule};
 ghost use Rattle.dmn_branch.specs.Machine as machine;
@@ -28,6 +29,7 @@ ghost use Rattle.dmn_branch.specs.Step.{profile_of as profile_by, most_rows};
 ghost use Rattle.dmn_walk.specs.Page.{IsReady as IsReadable, pairs_left};
 
 use crate::asked::{payees_of, row_of};
+use crate::coinbase::{CoinbasePart, coinbase_part};
 use crate::fault::{DisconnectRefusal, PinFault, PrepareFault};
 use crate::held::{Held, Prepared};
 use crate::listing::Listing;
@@ -40,9 +42,11 @@ use crate::tip::Tip;
 use dmn_block::{BlockFrame, Refusal, check_shape};
 use dmn_bytes::{Hash256, Memory, is_zero};
 use dmn_indexes::Indexes;
+use dmn_merkle::Branching;
 use dmn_payloads::Commitment;
 use dmn_quorums::{Forming, Mined, base_of, in_window, params_of};
 use dmn_rows::{MnRow, Profile, QuorumParams, Rule, StartRecord, profile_of};
+use dmn_tx::Tx;
 use dmn_walk::{Pairs, page};
 use std::alloc::Global;
 use std::marker::Model;
@@ -55,6 +59,8 @@ pub struct Branch {
     indexes: Indexes,
     // From the lowest height that is held to the tip's.
     held: Vec<Held>,
+    // One for each of these; none at the height before the first block.
+    coinbases: Vec<Option<CoinbasePart>>,
     // Those that aren't null. Above the tip stand only those of a block that was prepared.
     mined: Mined,
     top: u32,
@@ -63,15 +69,15 @@ pub struct Branch {
 }
 
 impl Model for Branch {
-    ghost use Rattle.std.specs.Prelude.{◌-◌, map, vec_len, vec_capacity};
+    ghost use Rattle.std.specs.Prelude.{◌≡◌, ◌-◌, length, map, vec_len, vec_capacity};
     ghost use Rattle.std.specs.List.{All};
     ghost use Rattle.dmn_branch.specs.Stands.{Keeping, IsKept, IsPinned, AreSound, kept_in, pins_in};
 
     ghost Value = { Keeping };
 
-    ghost view = { λ a. record { profile = a.profile; first = a.first; indexes = a.indexes; held = a.held.items; mined = a.mined; lists = map (kept_in a.indexes a.mined) a.held.items; top = a.top; room = vec_capacity a.held - vec_len a.held; pinned = a.pins; pins = pins_in a.indexes a.pins a.next_pin } };
+    ghost view = { λ a. record { profile = a.profile; first = a.first; indexes = a.indexes; held = a.held.items; mined = a.mined; lists = map (kept_in a.indexes a.mined) a.held.items; coinbases = a.coinbases.items; top = a.top; room = vec_capacity a.held - vec_len a.held; coinbase_room = vec_capacity a.coinbases - vec_len a.coinbases; pinned = a.pins; pins = pins_in a.indexes a.pins a.next_pin } };
 
-    ghost invariant = { λ a. IsKept a.profile a.first a.top (map (kept_in a.indexes a.mined) a.held.items) × AreSound a.indexes a.mined a.held.items × All (IsPinned a.indexes) a.pins };
+    ghost invariant = { λ a. IsKept a.profile a.first a.top (map (kept_in a.indexes a.mined) a.held.items) × AreSound a.indexes a.mined a.held.items × All (IsPinned a.indexes) a.pins × (length a.coinbases.items ≡ length a.held.items) };
 }
 
 // The profile of a start record.
@@ -102,8 +108,20 @@ fn low_of(profile: &Profile, first: u32, top: u32) -> u32
     (first - 1).max(top.saturating_sub(profile.kept))
 }
 
-// Of versions from one height on, keeps those from another on, which is at most one height above it.
-fn keep_from(held: &mut Vec<Held>, height: u32, low: u32)
+// Makes room for one block more.
+fn make_room(held: &mut Vec<Held>, coinbases: &mut Vec<Option<CoinbasePart>>) -> Result<(), Memory>
+    ensures held { held.new.items ≡ held.old.items }
+    ensures coinbases { coinbases.new.items ≡ coinbases.old.items }
+    ensures room { OnOk result (vec_len held.new < vec_capacity held.new) }
+    ensures coinbase_room { OnOk result (vec_len coinbases.new < vec_capacity coinbases.new) }
+{
+    held.reserve(1).map_err(|_| Memory)?;
+    coinbases.reserve(1).map_err(|_| Memory)?;
+    Ok(())
+}
+
+// Of what is held from one height on, keeps what is from another on, which is at most one height above it.
+fn keep_from<T: Drop>(held: &mut Vec<T>, height: u32, low: u32)
     requires some { 0 < length held.old.items }
     requires next { low ≤ height + 1 }
     ensures { held.new.items ≡ drop (low - height) held.old.items }
@@ -124,11 +142,14 @@ impl Branch {
         let first = origin(alloc, start, &mut indexes)?;
         let mut held = Vec::new(alloc);
         held.push(first).map_err(|_| Memory)?;
+        let mut coinbases = Vec::new(alloc);
+        coinbases.push(None).map_err(|_| Memory)?;
         Ok(Branch {
             profile: profile_by(start),
             first: start.first,
             indexes,
             held,
+            coinbases,
             mined: Mined::new(alloc),
             top: start.first - 1,
             pins: PinList::new(alloc),
@@ -288,6 +309,26 @@ impl Branch {
         self.mined.all_active(alloc, &self.profile.quorums, height)
     }
 
+    /// The first transaction of the block of a height that is held, and the branch that proves it. None exactly at the
+    /// height before the first block's.
+    pub fn coinbase_at(&self, height: u32) -> Option<(&Tx, &Branching)>
+        requires { IsHeld self.now height }
+        ensures { (m : MachineState) → StandsFor self.now m → IsToldOf coinbase_of (option_map lent_part result) (machine.state_at m height) }
+    {
+        match self.coinbase_held_at(height) {
+            Some(part) => Some((&part.tx, &part.branch)),
+            None => None,
+        }
+    }
+
+    // What is held of a height's coinbase.
+    fn coinbase_held_at(&self, height: u32) -> &Option<CoinbasePart>
+        requires { IsHeld self.now height }
+        ensures { slice_get self.now.coinbases (height - low_kept self.now) ≡ Some result.now }
+    {
+        &self.coinbases[(height - self.low()) as usize]
+    }
+
     /// Judges a block that is to follow the tip, and makes the state after it, and room for that. What is held stays as
     /// it is, and reads as before.
     pub fn prepare(&mut self, alloc: Global, block: &BlockFrame) -> Result<Prepared, PrepareFault>
@@ -337,7 +378,8 @@ impl Branch {
         let last = *self.last();
         let coinbase = check_shape(alloc, block, &last.hash, last.height)?;
         let formings = self.formings(alloc, coinbase.height)?;
-        if self.held.reserve(1).is_err() {
+        let part = coinbase_part(alloc, block)?;
+        if make_room(&mut self.held, &mut self.coinbases).is_err() {
             return Err(PrepareFault::Memory);
         }
         let profile = self.profile;
@@ -352,7 +394,11 @@ impl Branch {
             &mut self.indexes,
             &mut self.mined,
         ) {
-            Ok(prepared) => Ok(prepared),
+            Ok(stepped) => Ok(Prepared {
+                next: stepped.next,
+                events: stepped.events,
+                coinbase: part,
+            }),
             Err(fault) => Err(fault),
         }
     }
@@ -426,15 +472,14 @@ impl Branch {
         requires { IsReady self.old prepared }
         ensures { (m : MachineState) (block : BlockFrame) → StandsFor self.old m → IsNext (prepared_in self.old prepared) m block → StandsFor self.new (machine.with_block m block) }
     {
-        let Prepared { next, .. } = prepared;
+        let Prepared { next, coinbase, .. } = prepared;
         let low = self.low();
         self.top = self.top.max(next.height);
         self.held.push_reserved(next);
-        keep_from(
-            &mut self.held,
-            low,
-            low_of(&self.profile, self.first, self.top),
-        );
+        self.coinbases.push_reserved(coinbase);
+        let more = low_of(&self.profile, self.first, self.top);
+        keep_from(&mut self.held, low, more);
+        keep_from(&mut self.coinbases, low, more);
     }
 
     /// Leaves the block that was prepared, and cuts its nodes and its commitments off.
@@ -490,6 +535,7 @@ impl Branch {
         ensures cut { (tip : Held) → slice_get self.new.held (length self.new.held - 1) ≡ Some tip → Cut (marks_over self.new.pinned tip.marks) self.old.indexes self.new.indexes }
     {
         self.held.pop();
+        self.coinbases.pop();
         self.cut();
     }
 

@@ -1,5 +1,6 @@
 //! What is held of one height.
 
+use crate::coinbase::CoinbasePart;
 use dmn_bytes::Hash256;
 use dmn_indexes::Version;
 
@@ -14,9 +15,17 @@ pub struct Held {
     pub marks: [u64; 8],
 }
 
-/// The version after a block, which is not added yet.
+/// The version after a block, and how many events the block had.
+#[derive(Clone, Copy, Debug)]
+pub struct Stepped {
+    pub next: Held,
+    pub events: u64,
+}
+
+/// A block's version and its coinbase, which are not added yet.
 #[derive(Debug, Drop)]
 pub struct Prepared {
     pub(crate) next: Held,
     pub(crate) events: u64,
+    pub(crate) coinbase: Option<CoinbasePart>,
 }

@@ -3,6 +3,7 @@
 
 mod asked;
 mod branch;
+mod coinbase;
 mod commitments;
 mod confirm;
 mod fault;

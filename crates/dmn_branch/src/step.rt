@@ -23,7 +23,7 @@ ghost use Rattle.dmn_branch.specs.Step.{last_rules, step_from, most_events, most
 use crate::commitments::Commitments;
 use crate::confirm::confirm;
 use crate::fault::PrepareFault;
-use crate::held::{Held, Prepared};
+use crate::held::{Held, Stepped};
 use crate::limits::MOST_EVENTS;
 use crate::mark::{mark, payee};
 use crate::setting::Setting;
@@ -52,7 +52,7 @@ pub fn advance(
     coinbase: &CbTx,
     indexes: &mut Indexes,
     mined: &mut Mined,
-) -> Result<Prepared, PrepareFault>
+) -> Result<Stepped, PrepareFault>
     requires block { IsBlock block.now }
     requires shape { broken_rule block.now last.now.hash last.now.height ≡ None }
     requires payload { IsPayloadOfFirst block.now.txs coinbase.now }
@@ -61,15 +61,15 @@ pub fn advance(
     requires version { versions.IsWhole indexes.old last.now.version }
     requires whole { IsWhole (kept_in indexes.old mined.old last.now) }
     requires settled { undone last.now.height mined.old ≡ mined.old }
-    ensures next { (state : State) → StandsAt (kept_in indexes.old mined.old last.now) state → IfOk result (λ prepared. Follows setting.now.profile setting.now.formed state block.now prepared.events (kept_in indexes.new mined.new prepared.next)) }
+    ensures next { (state : State) → StandsAt (kept_in indexes.old mined.old last.now) state → IfOk result (λ stepped. Follows setting.now.profile setting.now.formed state block.now stepped.events (kept_in indexes.new mined.new stepped.next)) }
     ensures refused { (state : State) → StandsAt (kept_in indexes.old mined.old last.now) state → IfErr result (Tells (step_from setting.now.profile setting.now.formed state block.now)) }
-    ensures version { IfOk result (λ prepared. versions.IsWhole indexes.new prepared.next.version) }
-    ensures marks { IfOk result (λ prepared. prepared.next.marks ≡ marks_of indexes.new) }
-    ensures whole { IfOk result (λ prepared. IsWhole (kept_in indexes.new mined.new prepared.next)) }
-    ensures height { IfOk result (λ prepared. prepared.next.height ≡ last.now.height + 1) }
+    ensures version { IfOk result (λ stepped. versions.IsWhole indexes.new stepped.next.version) }
+    ensures marks { IfOk result (λ stepped. stepped.next.marks ≡ marks_of indexes.new) }
+    ensures whole { IfOk result (λ stepped. IsWhole (kept_in indexes.new mined.new stepped.next)) }
+    ensures height { IfOk result (λ stepped. stepped.next.height ≡ last.now.height + 1) }
     ensures kept { Keeps indexes.old indexes.new }
     ensures mined { undone last.now.height mined.new ≡ mined.old }
-    ensures grown { IfOk result (λ prepared. GrownBy (232 * prepared.events) indexes.old indexes.new) }
+    ensures grown { IfOk result (λ stepped. GrownBy (232 * stepped.events) indexes.old indexes.new) }
     ensures same { OnErr result (SameNodes indexes.old indexes.new) }
 {
     let marks = indexes.marks();
@@ -86,7 +86,7 @@ pub fn advance(
             indexes.cut(&marks);
             Err(fault)
         }
-        Ok(()) => Ok(Prepared {
+        Ok(()) => Ok(Stepped {
             next: Held {
                 height: coinbase.height,
                 hash: block.hash,

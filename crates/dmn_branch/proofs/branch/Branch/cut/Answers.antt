@@ -26,7 +26,7 @@ invariant_of-self c =
     let alike = alike_dropped ix mined c.undo.new.self last.height low held c.self.invariant.0.heights height c.undo.ensures in
     let marks = subst (λ (l : List ℕ). KeepsBelow l ix c.cut.new.self) c.marks_over.ensures c.cut.ensures.kept in
     let on = cut_on mined c.undo.new.self held last some (keeps_over c.self.inside.pins last.marks marks) alike c.self.invariant.1 in
-    (subst (IsKept c.self.inside.profile c.self.inside.first c.self.inside.top) (sym on.same) c.self.invariant.0, on.sound, (pins_by c).sound)
+    (subst (IsKept c.self.inside.profile c.self.inside.first c.self.inside.top) (sym on.same) c.self.invariant.0, on.sound, (pins_by c).sound, c.self.invariant.3)
 
 pub returns-clause-left : goal.returns-clause-left
 returns-clause-left c =
@@ -45,6 +45,7 @@ returns-clause-left c =
       first = ap (λ (b : Keeping). b.first) c.self.view_is;
       held = ap (λ (b : Keeping). b.held) c.self.view_is;
       lists = on.same ∙ ap (λ (b : Keeping). b.lists) c.self.view_is;
+      coinbases = ap (λ (b : Keeping). b.coinbases) c.self.view_is;
       top = ap (λ (b : Keeping). b.top) c.self.view_is;
       pinned = ap (λ (b : Keeping). b.pinned) c.self.view_is;
       pins = pins_read c.self.inside.next_pin (pins_by c) ∙ ap (λ (b : Keeping). b.pins) c.self.view_is;

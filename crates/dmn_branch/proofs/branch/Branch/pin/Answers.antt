@@ -25,7 +25,7 @@ invariant_of-self-2 c =
     let ix = c.self.inside.indexes in
     let whole = subst (λ (b : Keeping). versions.IsWhole b.indexes c.held_at.result.now.version) (sym c.self.view_is) c.held_at.ensures.whole in
     let one : IsPinned ix (made c) = record { sound = whole.sound; below = c.held_at.ensures.below.rows; hashes = whole.reads } in
-    (c.self.invariant.0, c.self.invariant.1, subst (All (IsPinned ix)) (sym (added c)) (All-push (IsPinned ix) c.self.inside.pins (made c) c.self.invariant.2 one))
+    (c.self.invariant.0, c.self.invariant.1, subst (All (IsPinned ix)) (sym (added c)) (All-push (IsPinned ix) c.self.inside.pins (made c) c.self.invariant.2 one), c.self.invariant.3)
 
 pub returns-clause-fresh : goal.returns-clause-fresh
 returns-clause-fresh c = λ m stands.

@@ -60,7 +60,8 @@ invariant_of-self-in-Ok c =
     let alike = alike_added ix mined more last.height (low_of c.self.inside.profile c.self.inside.first c.self.inside.top) held c.self.invariant.0.heights height (c.in-Ok.ensures.mined ∙ sym settled) in
     let on = keeps_on mined more held c.in-Ok.ensures.kept alike c.self.invariant.1 in
     let pins = pins_grow ix iy c.self.inside.pins c.in-Ok.ensures.grown c.self.invariant.2 in
-    subst (λ (l : List Held). IsKept c.self.inside.profile c.self.inside.first c.self.inside.top (map (kept_in iy more) l) × AreSound iy more l × All (IsPinned iy) c.self.inside.pins) (sym c.reserve.ensures.items) (subst (IsKept c.self.inside.profile c.self.inside.first c.self.inside.top) (sym on.same) c.self.invariant.0, on.sound, pins.sound)
+    let count : length c.make_room.new.coinbases.items ≡ length held = ap length c.make_room.ensures.coinbases ∙ c.self.invariant.3 in
+    subst (λ (l : List Held). IsKept c.self.inside.profile c.self.inside.first c.self.inside.top (map (kept_in iy more) l) × AreSound iy more l × All (IsPinned iy) c.self.inside.pins × (length c.make_room.new.coinbases.items ≡ length l)) (sym c.make_room.ensures.held) (subst (IsKept c.self.inside.profile c.self.inside.first c.self.inside.top) (sym on.same) c.self.invariant.0, on.sound, pins.sound, count)
 
 pub invariant_of-self-2 : goal.invariant_of-self-2
 invariant_of-self-2 c =
@@ -75,7 +76,8 @@ invariant_of-self-2 c =
     let alike = alike_added ix mined more last.height (low_of c.self.inside.profile c.self.inside.first c.self.inside.top) held c.self.invariant.0.heights height (c.in-Err.ensures.mined ∙ sym settled) in
     let on = keeps_on mined more held c.in-Err.ensures.kept alike c.self.invariant.1 in
     let pins = pins_same ix iy c.self.inside.pins c.in-Err.ensures.same c.self.invariant.2 in
-    subst (λ (l : List Held). IsKept c.self.inside.profile c.self.inside.first c.self.inside.top (map (kept_in iy more) l) × AreSound iy more l × All (IsPinned iy) c.self.inside.pins) (sym c.reserve.ensures.items) (subst (IsKept c.self.inside.profile c.self.inside.first c.self.inside.top) (sym on.same) c.self.invariant.0, on.sound, pins.sound)
+    let count : length c.make_room.new.coinbases.items ≡ length held = ap length c.make_room.ensures.coinbases ∙ c.self.invariant.3 in
+    subst (λ (l : List Held). IsKept c.self.inside.profile c.self.inside.first c.self.inside.top (map (kept_in iy more) l) × AreSound iy more l × All (IsPinned iy) c.self.inside.pins × (length c.make_room.new.coinbases.items ≡ length l)) (sym c.make_room.ensures.held) (subst (IsKept c.self.inside.profile c.self.inside.first c.self.inside.top) (sym on.same) c.self.invariant.0, on.sound, pins.sound, count)
 
 pub returns-in-Ok-clause-left : goal.returns-in-Ok-clause-left
 returns-in-Ok-clause-left c =
@@ -92,8 +94,9 @@ returns-in-Ok-clause-left c =
     record {
       profile = ap (λ (b : Keeping). b.profile) c.self.view_is;
       first = ap (λ (b : Keeping). b.first) c.self.view_is;
-      held = c.reserve.ensures.items ∙ ap (λ (b : Keeping). b.held) c.self.view_is;
-      lists = ap (map (kept_in iy more)) c.reserve.ensures.items ∙ on.same ∙ ap (λ (b : Keeping). b.lists) c.self.view_is;
+      held = c.make_room.ensures.held ∙ ap (λ (b : Keeping). b.held) c.self.view_is;
+      lists = ap (map (kept_in iy more)) c.make_room.ensures.held ∙ on.same ∙ ap (λ (b : Keeping). b.lists) c.self.view_is;
+      coinbases = c.make_room.ensures.coinbases ∙ ap (λ (b : Keeping). b.coinbases) c.self.view_is;
       top = ap (λ (b : Keeping). b.top) c.self.view_is;
       pinned = ap (λ (b : Keeping). b.pinned) c.self.view_is;
       pins = pins_read c.self.inside.next_pin (pins_grow ix iy c.self.inside.pins c.in-Ok.ensures.grown c.self.invariant.2) ∙ ap (λ (b : Keeping). b.pins) c.self.view_is;
@@ -114,8 +117,9 @@ returns-clause-left c =
     record {
       profile = ap (λ (b : Keeping). b.profile) c.self.view_is;
       first = ap (λ (b : Keeping). b.first) c.self.view_is;
-      held = c.reserve.ensures.items ∙ ap (λ (b : Keeping). b.held) c.self.view_is;
-      lists = ap (map (kept_in iy more)) c.reserve.ensures.items ∙ on.same ∙ ap (λ (b : Keeping). b.lists) c.self.view_is;
+      held = c.make_room.ensures.held ∙ ap (λ (b : Keeping). b.held) c.self.view_is;
+      lists = ap (map (kept_in iy more)) c.make_room.ensures.held ∙ on.same ∙ ap (λ (b : Keeping). b.lists) c.self.view_is;
+      coinbases = c.make_room.ensures.coinbases ∙ ap (λ (b : Keeping). b.coinbases) c.self.view_is;
       top = ap (λ (b : Keeping). b.top) c.self.view_is;
       pinned = ap (λ (b : Keeping). b.pinned) c.self.view_is;
       pins = pins_read c.self.inside.next_pin (pins_same ix iy c.self.inside.pins c.in-Err.ensures.same c.self.invariant.2) ∙ ap (λ (b : Keeping). b.pins) c.self.view_is;
@@ -157,7 +161,7 @@ returns-in-Ok-clause-next c = λ m stands fresh.
     ap (λ (g : Given). g.formed) c.new-setting.ensures ∙ c.deref.ensures.value ∙ c.in_ok-formings.ensures ∙ ap (λ (b : Keeping). all_formed_in b c.in_ok-coinbase.coinbase.height b.profile.quorums) (sym c.self.view_is)
     ∙ all_formed_are _ m c.in_ok-coinbase.coinbase.height before c.self.invariant.0 (c.in_ok-coinbase.ensures.height ∙ height) (sym settled ∙ at.mined) (c.in_ok-coinbase.ensures.height ∙ ap (λ (n : ℕ). n + 1) at.height) in
     let profile : c.new-setting.result.profile ≡ machine.profile m = ap (λ (g : Given). g.profile) c.new-setting.ensures ∙ before.profile in
-    next_is m c.args.block.now c.new-setting.result.profile c.new-setting.result.formed c.in-Ok.prepared.events (kept_in c.advance.new.indexes c.advance.new.mined c.in-Ok.prepared.next) profile given fresh (c.in-Ok.ensures.next (tip m) at)
+    next_is m c.args.block.now c.new-setting.result.profile c.new-setting.result.formed c.in-Ok.stepped.events (kept_in c.advance.new.indexes c.advance.new.mined c.in-Ok.stepped.next) c.in_ok-part.part profile given fresh (c.in-Ok.ensures.next (tip m) at) c.in_ok-part.ensures
 
 pub returns-in-Ok-clause-events : goal.returns-in-Ok-clause-events
 returns-in-Ok-clause-events c = λ m stands.
@@ -183,11 +187,12 @@ returns-in-Ok-clause-ready c =
     let more = c.advance.new.mined in
     let held = c.self.inside.held.items in
     let low = low_of c.self.inside.profile c.self.inside.first c.self.inside.top in
-    let height : c.in-Ok.prepared.next.height ≡ low + length (map (kept_in ix mined) held) = c.in-Ok.ensures.height ∙ c.last.ensures.height ∙ sym (ap (λ (b : Keeping). low_kept b + length b.lists) c.self.view_is) in
-    let count : length (map (kept_in ix mined) held) ≡ length (map (kept_in iy more) c.reserve.new.self.items) = length-map held (kept_in ix mined) ∙ sym (ap length c.reserve.ensures.items) ∙ sym (length-map c.reserve.new.self.items (kept_in iy more)) in
+    let height : c.in-Ok.stepped.next.height ≡ low + length (map (kept_in ix mined) held) = c.in-Ok.ensures.height ∙ c.last.ensures.height ∙ sym (ap (λ (b : Keeping). low_kept b + length b.lists) c.self.view_is) in
+    let count : length (map (kept_in ix mined) held) ≡ length (map (kept_in iy more) c.make_room.new.held.items) = length-map held (kept_in ix mined) ∙ sym (ap length c.make_room.ensures.held) ∙ sym (length-map c.make_room.new.held.items (kept_in iy more)) in
     record {
       next = height ∙ ap (λ (n : ℕ). low + n) count;
-      room = omega (arith, ok_from c.reserve.result (sym c.is_err.ensures.value ∙ c.if-is_err.false) c.reserve.ensures.ok);
+      room = omega (arith, ok_from c.make_room.result (sym c.is_err.ensures.value ∙ c.if-is_err.false) c.make_room.ensures.room);
+      coinbase_room = omega (arith, ok_from c.make_room.result (sym c.is_err.ensures.value ∙ c.if-is_err.false) c.make_room.ensures.coinbase_room);
       version = c.in-Ok.ensures.version;
       marks = c.in-Ok.ensures.marks;
       whole = c.in-Ok.ensures.whole;

@@ -14,7 +14,7 @@ invariant_of-self c =
     let height = c.last.ensures.height ∙ ap (λ (b : Keeping). low_kept b + length b.lists) (sym c.self.view_is) in
     let alike = alike_dropped ix mined c.undo.new.self last.height low held c.self.invariant.0.heights height c.undo.ensures in
     let on = alike_on mined c.undo.new.self held alike c.self.invariant.1 in
-    (subst (IsKept c.self.inside.profile c.self.inside.first c.self.inside.top) (sym on.same) c.self.invariant.0, on.sound, c.self.invariant.2)
+    (subst (IsKept c.self.inside.profile c.self.inside.first c.self.inside.top) (sym on.same) c.self.invariant.0, on.sound, c.self.invariant.2, c.self.invariant.3)
 
 pub returns-clause-left : goal.returns-clause-left
 returns-clause-left c =
@@ -31,6 +31,7 @@ returns-clause-left c =
       first = ap (λ (b : Keeping). b.first) c.self.view_is;
       held = ap (λ (b : Keeping). b.held) c.self.view_is;
       lists = on.same ∙ ap (λ (b : Keeping). b.lists) c.self.view_is;
+      coinbases = ap (λ (b : Keeping). b.coinbases) c.self.view_is;
       top = ap (λ (b : Keeping). b.top) c.self.view_is;
       pinned = ap (λ (b : Keeping). b.pinned) c.self.view_is;
       pins = ap (λ (b : Keeping). b.pins) c.self.view_is;

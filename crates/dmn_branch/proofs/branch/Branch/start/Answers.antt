@@ -1,4 +1,4 @@
-use Rattle.std.proofs.Common.{◌≡◌, ◌-◌, ◌∷◌, [], List, Some, map, refl, sym, ap, ◌∙◌, subst, arith}
+use Rattle.std.proofs.Common.{◌≡◌, ◌-◌, ◌∷◌, [], length, List, None, Some, map, refl, sym, ap, ◌∙◌, subst, arith}
 use Rattle.std.proofs.lemmas.Grind.{common_steps}
 use Rattle.dmn_branch.specs.declared.held.Held.{Held}
 use Rattle.dmn_branch.specs.declared.pins.Pin.{Pin}
@@ -17,6 +17,7 @@ invariant_of-result c =
     let first = c.in_ok-first.first in
     let start = c.args.start.now in
     let items : c.push.new.self.items ≡ first ∷ [] = grind (arith, common_steps) in
+    let coinbases : c.push-2.new.self.items ≡ None ∷ [] = grind (arith, common_steps) in
     let list : kept_in ix c.new.result first ≡ first_kept c.args.start.now = ap (λ (l : List MinedAt). kept_in ix l first) c.new.ensures ∙ c.in_ok-first.ensures.list in
     let whole = subst IsWhole (sym list) (begins_whole start c.requires) in
     let one : IsKept c.profile_by.result start.first (start.first - 1) (kept_in ix c.new.result first ∷ []) =
@@ -25,6 +26,7 @@ invariant_of-result c =
       subst (λ (l : List Held). IsKept c.profile_by.result start.first (start.first - 1) (map (kept_in ix c.new.result) l)) (sym items) one,
       subst (AreSound ix c.new.result) (sym items) (push_on [] first c.in_ok-first.ensures.version c.in_ok-first.ensures.marks whole (sound_none ix c.new.result)),
       no_pins_on ix c.new-2.result c.new-2.ensures,
+      ap length coinbases ∙ sym (ap length items),
     )
 
 pub returns : goal.returns
@@ -34,4 +36,5 @@ returns c =
     let items : c.push.new.self.items ≡ first ∷ [] = grind (arith, common_steps) in
     let list : kept_in ix c.new.result first ≡ first_kept c.args.start.now = ap (λ (l : List MinedAt). kept_in ix l first) c.new.ensures ∙ c.in_ok-first.ensures.list in
     let lists : map (kept_in ix c.new.result) c.push.new.self.items ≡ first_kept c.args.start.now ∷ [] = ap (map (kept_in ix c.new.result)) items ∙ ap (λ (k : Kept). k ∷ []) list in
-    start_stands _ c.args.start.now c.requires (record { profile = c.profile_by.ensures; first = refl; lists = lists; top = refl; pins = ap (λ (l : List Pin). pins_in ix l (Some 1)) c.new-2.ensures }) refl (invariant_of-result c).1
+    let coinbases : c.push-2.new.self.items ≡ None ∷ [] = grind (arith, common_steps) in
+    start_stands _ c.args.start.now c.requires (record { profile = c.profile_by.ensures; first = refl; lists = lists; coinbases = coinbases; top = refl; pins = ap (λ (l : List Pin). pins_in ix l (Some 1)) c.new-2.ensures }) refl (invariant_of-result c).1

@@ -1,0 +1,33 @@
+//! What proves a block's first transaction.
+
+ghost use Rattle.std.specs.Prelude.{◌≡◌, IfOk};
+ghost use Rattle.dmn_block.specs.Defs.{IsBlock};
+ghost use Rattle.dmn_branch.specs.Coinbases.{part_of};
+
+use dmn_block::BlockFrame;
+use dmn_bytes::Memory;
+use dmn_merkle::{Branching, coinbase_branch};
+use dmn_tx::Tx;
+use std::alloc::Global;
+
+/// The first transaction of a block, and the branch that proves it under the block's Merkle root.
+#[derive(Debug, Drop)]
+pub struct CoinbasePart {
+    pub tx: Tx,
+    pub branch: Branching,
+}
+
+/// That of a block's first transaction, where the block has one.
+pub fn coinbase_part(alloc: Global, block: &BlockFrame) -> Result<Option<CoinbasePart>, Memory>
+    requires { IsBlock block.now }
+    ensures { IfOk result (λ part. part ≡ part_of block.now.txs) }
+{
+    match block.txs.as_slice().first() {
+        None => Ok(None),
+        Some(first) => {
+            let branch = coinbase_branch(alloc, block.ids.as_slice())?;
+            let tx = first.copy(alloc)?;
+            Ok(Some(CoinbasePart { tx, branch }))
+        }
+    }
+}

@@ -1,5 +1,5 @@
 -- The text of a journal.
-use Rattle.std.proofs.Common.{◌≡◌, ℕ, List, [], ◌∷◌, ◌++◌, refl, sym, ap, arith}
+use Rattle.std.proofs.Common.{ℕ, List, [], ◌∷◌, ◌++◌, refl, sym, ap, arith}
 use Rattle.std.proofs.lemmas.List.{append-nil}
 use Rattle.dmn_journal.specs.Journal.{header_text}
 use Rattle.dmn_journal.specs.Laws.{JournalsHaveTheirCommands, MadeIsAJournal}

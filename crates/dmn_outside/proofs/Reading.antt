@@ -1,5 +1,5 @@
 -- What a disk tells before and after reads.
-use Rattle.std.proofs.Common.{◌≡◌, ℕ, ◌+◌, ◌≤◌, List, ap, subst, ◌∙◌, arith, refl, Result, Ok, Err, IfOk, OnErr, Bool, true, false, nat_eq, if◌then◌else◌, zero, suc}
+use Rattle.std.proofs.Common.{◌≡◌, ℕ, ◌+◌, ◌≤◌, List, ap, subst, ◌∙◌, arith, Result, Ok, Err, IfOk, OnErr, Bool, true, false, nat_eq, if◌then◌else◌, zero, suc}
 use Rattle.dmn_outside.specs.Changes.{OnlyReads, after_read, bytes_read, reads_more, unread}
 use Rattle.dmn_outside.specs.Disk.{Told, nothing, contents, whole, IfReads, Three, File, Reads, all_reads, DiskView, pick, change}
 use Rattle.dmn_outside.proofs.Crash.{files_or, read_unread}

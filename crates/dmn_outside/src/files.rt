@@ -1,6 +1,6 @@
 //! A disk in memory. It keeps what was done and when, so that each image of a crash can be told.
 
-ghost use Rattle.std.specs.Prelude.{◌≡◌, ◌+◌, ◌<◌, ◌≤◌, ◌^◌, ℕ, [], List, length, OnOk, OnErr, IfOk};
+ghost use Rattle.std.specs.Prelude.{◌≡◌, ◌≤◌, ℕ, [], List, length, OnOk, OnErr, IfOk};
 ghost use Rattle.dmn_outside.specs.Changes.{MayChange, ReadsAt, after, after_cut, after_cut_torn, after_read, after_sync, after_torn, after_write, past_after};
 ghost use Rattle.dmn_outside.specs.Counts.{Passes};
 ghost use Rattle.dmn_outside.specs.Disk.{File, IfReads, pick};

@@ -1,6 +1,6 @@
 //! One image of a crash of a disk in memory, by going over what was done to it.
 
-ghost use Rattle.std.specs.Prelude.{◌≡◌, ◌+◌, ◌⊎◌, length, take, IfOk};
+ghost use Rattle.std.specs.Prelude.{◌≡◌, ◌⊎◌, length, take, IfOk};
 ghost use Rattle.dmn_outside.specs.Changes.{file_cut, file_cut_torn, file_wrote};
 ghost use Rattle.dmn_outside.specs.Disk.{File, Three, Torn, change, pick};
 ghost use Rattle.dmn_outside.specs.Picked.{Follows, IsPicked};

@@ -128,6 +128,58 @@ fn a_byte_that_is_changed_is_found(rt: HostRuntime) -> Result<(), Fail> {
     Ok(())
 }
 
+fn departs(at: u64) -> Result<u64, JournalFault> {
+    Err(JournalFault::NotJournal { at })
+}
+
+// What is read where a bit of one byte from a place on, up to another one, is turned, by another program.
+#[test]
+fn each_byte_that_is_turned_is_found(rt: HostRuntime) -> Result<(), Fail> {
+    let alloc = rt.alloc();
+    let text = two_records(alloc)?;
+    for (bit, from, to, want) in [
+        (1, 0, 1, departs(0)),
+        (1, 1, 8, departs(1)),
+        (1, 8, 9, departs(51)),
+        (1, 9, 14, departs(12)),
+        (1, 14, 15, departs(14)),
+        (1, 15, 51, Ok(2)),
+        (1, 51, 54, departs(55)),
+        (1, 54, 55, departs(51)),
+        (1, 55, 56, Ok(0)),
+        (1, 56, 57, departs(61)),
+        (1, 57, 61, departs(60)),
+        (1, 61, 93, Ok(2)),
+        (1, 93, 94, Ok(1)),
+        (1, 94, 95, departs(105)),
+        (1, 95, 99, departs(98)),
+        (1, 99, 104, Ok(2)),
+        (1, 104, 105, departs(105)),
+        (128, 0, 1, departs(0)),
+        (128, 1, 8, departs(1)),
+        (128, 8, 14, departs(12)),
+        (128, 14, 15, departs(14)),
+        (128, 15, 51, Ok(2)),
+        (128, 51, 53, departs(55)),
+        (128, 53, 55, departs(51)),
+        (128, 55, 56, Ok(0)),
+        (128, 56, 61, departs(60)),
+        (128, 61, 93, Ok(2)),
+        (128, 93, 94, Ok(1)),
+        (128, 94, 99, departs(98)),
+        (128, 99, 105, Ok(2)),
+    ] {
+        for place in from..to {
+            let mut turned = Vec::from_slice(alloc, text.as_slice())?;
+            if place < turned.len() {
+                turned[place] ^= bit;
+            }
+            assert_eq!(rt; count(alloc, &turned)?, want, "bit {bit} of byte {place}");
+        }
+    }
+    Ok(())
+}
+
 #[test]
 fn a_stop_leaves_the_records_of_before_or_one_more(rt: HostRuntime) -> Result<(), Fail> {
     let alloc = rt.alloc();

@@ -13,6 +13,7 @@ mod Asking
 mod Putting
 mod Holding
 mod Pinning
+mod Changing
 mod Entries
 mod Numbers
 mod Mining

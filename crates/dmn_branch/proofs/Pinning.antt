@@ -211,14 +211,16 @@ repinned old new m pins is same numbered stands =
     } in
     subst (λ (b : Keeping). StandsFor b (record m { pins = pins })) (sym is) with
 
+-- what is kept of a height reads, through that height, as the rows of its state
+pub rows_seen : (kept : Kept) (height : ℕ) (found : Option State) → kept.height ≡ height → StandsIn kept found → plain_rows height kept.rows ≡ machine.rows_of found
+rows_seen kept height None is at = absurd at
+rows_seen kept height (Some state) is at = ap (λ (n : ℕ). plain_rows n kept.rows) (sym is ∙ at.height) ∙ at.rows
+
 -- the pin of a height that is held
 pub pin_made : (ix : Indexes) (m : MachineState) (kept : Kept) (pin : Pin) → kept.height ≡ pin.height → kept.rows ≡ values (reads ix.rows pin.root) → StandsIn kept (machine.state_at m pin.height) → pinned_in ix pin ≡ machine.pin_at m pin.number pin.height
-pin_made ix m kept pin height rows stands = ap (λ (r : List MnRow). record { number = pin.number; height = pin.height; rows = r }) (go (machine.state_at m pin.height) stands)
-  where
-    go : (found : Option State) → StandsIn kept found → plain_rows pin.height (values (reads ix.rows pin.root)) ≡ machine.rows_of found
-    go None at = absurd at
-    go (Some state) at =
-        ap (λ (n : ℕ). plain_rows n (values (reads ix.rows pin.root))) (sym height ∙ at.height) ∙ ap (plain_rows state.height) (sym rows) ∙ at.rows
+pin_made ix m kept pin height rows stands =
+    ap (λ (r : List MnRow). record { number = pin.number; height = pin.height; rows = r })
+    (ap (plain_rows pin.height) (sym rows) ∙ rows_seen kept pin.height (machine.state_at m pin.height) height stands)
 
 pub pins_more : (ix : Indexes) (pinned : List Pin) (next : Option ℕ) (pin : Pin) → pins_in ix (pinned ++ pin ∷ []) (number_after pin.number) ≡ with_pin (pins_in ix pinned next) (pinned_in ix pin)
 pins_more ix pinned next pin = ap (λ (l : List Pinned). record { live = l; next = number_after pin.number }) (map-append (pinned_in ix) pinned (pin ∷ []))

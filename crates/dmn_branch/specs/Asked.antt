@@ -1,5 +1,5 @@
 -- What is asked of a branch.
-use Rattle.std.specs.Prelude.{◌≡◌, ℕ, ◌%◌, ◌==◌, ◌&&◌, nat_le, if◌then◌else◌, List, length, find, Option, None, Some}
+use Rattle.std.specs.Prelude.{◌≡◌, ◌⊎◌, ℕ, ◌%◌, ◌==◌, ◌&&◌, not, nat_le, if◌then◌else◌, List, [], ◌∷◌, length, map, find, filter, Option, None, Some, is_some}
 use Rattle.std.specs.Option.{option_map}
 use Rattle.dmn_block.specs.State.{State}
 use Rattle.dmn_bytes.specs.declared.hash.Hash256.{Hash256}
@@ -12,6 +12,7 @@ use Rattle.dmn_rows.specs.declared.row.MnRow.{MnRow}
 use Rattle.dmn_rows.specs.Row.{plain}
 use Rattle.dmn_rows.specs.Rows.{has_hash, plain_rows}
 use Rattle.dmn_sml.specs.Defs.{root_of, simple}
+use Rattle.dmn_sml.specs.Entry.{entry_of}
 use Rattle.dmn_standing.specs.Payment.{forecast, payee_row}
 use denote.Ref.{Bor}
 use Rattle.dmn_merkle.specs.declared.branch.Branching.{Branching}
@@ -19,7 +20,7 @@ use Rattle.dmn_tx.specs.declared.tx.Tx.{Tx}
 use Rattle.dmn_branch.specs.declared.coinbase.CoinbasePart.{CoinbasePart}
 use Rattle.dmn_branch.specs.declared.tip.Tip.{Tip}
 use Rattle.dmn_branch.specs.Pins.{Pinned, page_of}
-use Rattle.dmn_branch.specs.Machine.{MachineState, profile, tip, low, top}
+use Rattle.dmn_branch.specs.Machine.{MachineState, profile, rows_of, state_at, tip, low, top}
 
 abbrev pub told : MachineState → Tip
 told m = record { height = (tip m).height; hash = (tip m).hash; low = low m; top = top m }
@@ -105,3 +106,23 @@ IsPageOf from most None None = Unit {0}
 IsPageOf from most (Some pin) (Some pairs) = IsPartOf pin from most pairs
 IsPageOf from most None (Some pairs) = ⊥
 IsPageOf from most (Some pin) None = ⊥
+
+-- ---- what is told of two heights
+
+-- the rows of a height that is held; where none is named there are no rows
+abbrev pub rows_at : MachineState → Option ℕ → List MnRow
+rows_at m None = []
+rows_at m (Some height) = rows_of (state_at m height)
+
+-- the hashes of the base's rows that the target has no row of
+abbrev pub hashes_gone : List MnRow → List MnRow → List Hash256
+hashes_gone base target = map (λ row. row.hash) (filter (λ row. not (is_some (find (has_hash row.hash) target))) base)
+
+-- the base has a row of this one's hash, with the same entry of the simplified list
+abbrev pub IsShown : List MnRow → MnRow → Type 0
+IsShown base row = (old : MnRow) × (find (has_hash row.hash) base ≡ Some old) × (entry_of old ≡ entry_of row)
+
+-- these rows are the target's, in its order, and none is left out but where the base has the same entry
+abbrev pub LeavesOut : List MnRow → List MnRow → List MnRow → Type 0
+LeavesOut base [] put = put ≡ []
+LeavesOut base (row ∷ target) put = ((rest : List MnRow) × (put ≡ row ∷ rest) × LeavesOut base target rest) ⊎ (IsShown base row × LeavesOut base target put)

@@ -10,7 +10,10 @@ use Rattle.dmn_payloads.specs.declared.payloads.CbTx.{CbTx}
 use Rattle.dmn_quorums.specs.Duty.{base_of, is_in_window, is_done, mined_at, undone, types_of}
 use Rattle.dmn_quorums.specs.Forming.{Formed, inside, outside}
 use Rattle.dmn_block.specs.State.{State}
+use Rattle.dmn_indexes.specs.declared.indexes.Indexes.{Indexes}
+use Rattle.dmn_indexes.specs.Version.{by_hash, values}
 use Rattle.dmn_indexes.specs.Working.{Worked, listing}
+use Rattle.dmn_rows.specs.contracts.row.MnRowPartialEq.TheImpl as rows_alike
 use Rattle.dmn_rows.specs.declared.profile.Profile.{Profile}
 use Rattle.dmn_rows.specs.declared.profile.QuorumParams.{QuorumParams}
 use Rattle.dmn_rows.specs.declared.row.MnRow.{MnRow}
@@ -20,6 +23,8 @@ use Rattle.dmn_rows.specs.Distinct.{HasDistinctKeys}
 use Rattle.dmn_rows.specs.Listing.{IsAscending}
 use Rattle.dmn_rows.specs.Rows.{Outputs, plain_rows}
 use Rattle.dmn_tx.specs.declared.tx.Tx.{Tx}
+use Rattle.dmn_versions.specs.declared.node.Root.{Root}
+use Rattle.dmn_versions.specs.Trees.{reads}
 use Rattle.dmn_tx.specs.Tx.{is_special}
 use Rattle.dmn_branch.specs.Quorums.{Committed, Punished}
 use Rattle.dmn_branch.specs.Stands.{Kept, Keeping, StandsAt, low_kept, tip_kept}
@@ -121,3 +126,13 @@ pub record IsTip (tip : Kept) (block : BlockFrame) (coinbase : CbTx) (list : Wor
   pub same : listing list ≡ record { rows = tip.rows; outputs = tip.outputs }
   pub none : list.events ≡ 0
   pub mined : tip.mined ≡ before
+
+-- what `==` answers at stored rows
+abbrev pub same_row : MnRow → MnRow → Bool
+same_row = (rows_alike.ghosts).eq
+
+-- a tree of rows, read through some height, is these rows, each under its hash
+pub record IsTreeOf (ix : Indexes) (root : Root) (list : List MnRow) : Type 0 where
+  pub height : ℕ
+  pub hashes : reads ix.rows root ≡ by_hash (values (reads ix.rows root))
+  pub rows : plain_rows height (values (reads ix.rows root)) ≡ list

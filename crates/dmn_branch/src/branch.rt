@@ -14,14 +14,16 @@ ghost use Rattle.dmn_indexes.specs.Version as versions;
 ghost use Rattle.dmn_rows.specs.declared.profile.Profile.{Profile};
 ghost use Rattle.dmn_rows.specs.Defs.{KeepsBounds};
 ghost use Rattle.dmn_rows.specs.Listing.{OutputsAscend};
+ghost use Rattle.dmn_rows.specs.Rows.{plain_rows};
 ghost use Rattle.dmn_rows.specs.Start.{start_record};
-ghost use Rattle.dmn_branch.specs.Asked.{told, lent_part, IsPageOf, IsToldOf, Lends, members_in, payee_of, payees_of, quorums_in, row_of, seen_at};
+ghost use Rattle.dmn_versions.specs.Trees.{IsSound};
+ghost use Rattle.dmn_branch.specs.Asked.{told, lent_part, IsPageOf, IsToldOf, LeavesOut, Lends, hashes_gone, members_in, payee_of, payees_of, quorums_in, row_of, rows_at, seen_at};
 ghost use Rattle.dmn_branch.specs.Coinbases.{coinbase_of, part_of};
 ghost use Rattle.dmn_branch.specs.declared.held.Held.{Held};
 ghost use Rattle.dmn_branch.specs.Fault.{Tells, TellsFull, TellsRule};
 ghost use Rattle.dmn_branch.specs.Machine as machine;
 ghost use Rattle.dmn_branch.specs.Machine.{MachineState};
-ghost use Rattle.dmn_branch.specs.Parts.{StandsIn, IsSettled, all_formed_in, formed_in};
+ghost use Rattle.dmn_branch.specs.Parts.{StandsIn, IsSettled, IsTreeOf, all_formed_in, formed_in};
 ghost use Rattle.dmn_branch.specs.Pins.{free_number, number_after, pin_of};
 ghost use Rattle.dmn_quorums.specs.Duty.{types_of};
 ghost use Rattle.dmn_branch.specs.Stands.{StandsFor, IsNext, IsReady, IsHeld, IsLeft, HoldsBase, kept_in, low_kept, marks_over, prepared_in, IsAboveFloor, low_of, floor_kept};
@@ -29,6 +31,7 @@ ghost use Rattle.dmn_branch.specs.Step.{profile_of as profile_by, most_rows};
 ghost use Rattle.dmn_walk.specs.Page.{IsReady as IsReadable, pairs_left};
 
 use crate::asked::{payees_of, row_of};
+use crate::change::{RowChange, change};
 use crate::coinbase::{CoinbasePart, coinbase_part};
 use crate::fault::{DisconnectRefusal, PinFault, PrepareFault};
 use crate::held::{Held, Prepared};
@@ -47,6 +50,7 @@ use dmn_payloads::Commitment;
 use dmn_quorums::{Forming, Mined, base_of, in_window, params_of};
 use dmn_rows::{MnRow, Profile, QuorumParams, Rule, StartRecord, profile_of};
 use dmn_tx::Tx;
+use dmn_versions::Root;
 use dmn_walk::{Pairs, page};
 use std::alloc::Global;
 use std::marker::Model;
@@ -327,6 +331,36 @@ impl Branch {
         ensures { slice_get self.now.coinbases (height - low_kept self.now) ≡ Some result.now }
     {
         &self.coinbases[(height - self.low()) as usize]
+    }
+
+    // The tree of the rows of a height that is held; an empty one where none is named.
+    fn tree_at(&self, height: Option<u32>) -> Root
+        requires { IfSome height (IsHeld self.now) }
+        ensures sound { IsSound hash_cmp self.now.indexes.rows.nodes.items result.0 }
+        ensures rows { (m : MachineState) → StandsFor self.now m → IsTreeOf self.now.indexes result (rows_at m height) }
+    {
+        match height {
+            Some(height) => self.held_at(height).version.rows,
+            None => Root(0),
+        }
+    }
+
+    /// How the list of a height differs from that of another, where both are held. No base is the empty list. Each row of
+    /// the target that is not told has the same entry of the simplified list in the base.
+    pub fn changes_at(
+        &self,
+        alloc: Global,
+        base: Option<u32>,
+        target: u32,
+    ) -> Result<RowChange, Memory>
+        requires base { IfSome base (IsHeld self.now) }
+        requires target { IsHeld self.now target }
+        ensures gone { (m : MachineState) → StandsFor self.now m → IfOk result (λ change. change.gone.items ≡ hashes_gone (rows_at m base) (rows_at m (Some target))) }
+        ensures put { (m : MachineState) → StandsFor self.now m → IfOk result (λ change. LeavesOut (rows_at m base) (rows_at m (Some target)) (plain_rows target change.put.items)) }
+    {
+        let old = self.tree_at(base);
+        let new = self.held_at(target).version.rows;
+        change(alloc, &self.indexes, old, new)
     }
 
     /// Judges a block that is to follow the tip, and makes the state after it, and room for that. What is held stays as

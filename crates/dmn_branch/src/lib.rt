@@ -3,6 +3,7 @@
 
 mod asked;
 mod branch;
+mod change;
 mod coinbase;
 mod commitments;
 mod confirm;
@@ -22,6 +23,7 @@ mod tip;
 mod transactions;
 
 pub use branch::Branch;
+pub use change::RowChange;
 pub use fault::{DisconnectRefusal, PinFault, PrepareFault};
 pub use held::Prepared;
 pub use law::{bases_are_held, refused_by_the_least_number, taken_back_as_before};

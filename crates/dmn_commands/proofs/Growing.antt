@@ -14,8 +14,8 @@ use Rattle.dmn_desk.specs.declared.kind.Kind.{Kind}
 use Rattle.dmn_desk.specs.declared.limits.TheConstants.{LONGEST_BODY, START}
 use Rattle.dmn_desk.specs.declared.request.Request.{Request}
 use Rattle.dmn_desk.specs.declared.request.Request.TheVariants as requests
-use Rattle.dmn_desk.specs.Ask.{answered, ask, asked, asked_by, asked_idle, asked_kind, idle_kind, not_built, started_by, unknown}
-use Rattle.dmn_desk.specs.Kinds.{is_built, kind_of, takes_no_memory}
+use Rattle.dmn_desk.specs.Ask.{answered, ask, asked, asked_by, asked_idle, asked_kind, idle_kind, started_by, unknown}
+use Rattle.dmn_desk.specs.Kinds.{kind_of, takes_no_memory}
 use Rattle.dmn_desk.specs.Requests.{kind_by, request_of}
 use Rattle.dmn_desk.specs.Texts.{is_short}
 use Rattle.dmn_desk.proofs.Bodies.{kind_of_request}
@@ -34,7 +34,7 @@ ask_grows m (requests.Row height hash) h = (refl, refl)
 ask_grows m (requests.Payees height count) h = (refl, refl)
 ask_grows m (requests.Members kind base) h = (refl, refl)
 ask_grows m (requests.Quorums height) h = (refl, refl)
-ask_grows m (requests.Diff base block) h = absurd (cc)
+ask_grows m (requests.Diff base block) h = (refl, refl)
 ask_grows m (requests.Pin height) h = absurd (cc)
 ask_grows m (requests.Page pin from count) h = (refl, refl)
 ask_grows m (requests.Release pin) h = absurd (cc)
@@ -43,14 +43,10 @@ read_grows : (m : MachineState) (kind : Kind) (r : Result Request Departure) →
 read_grows m kind (Ok request) is h = let e : kind_by request ≡ kind = is request refl in rw e at (ask_grows m request h)
 read_grows m kind (Err d) is h = absurd (cc)
 
-test_grows : (m : MachineState) (kind : Kind) (built : Bool) (p : Answer × MachineState) → Grows (takes_no_memory (Some kind)) m p → Grows (takes_no_memory (Some kind)) m (cond built p (not_built, m))
-test_grows m kind true p grows h = grows h
-test_grows m kind false p grows h = absurd (cc)
-
 kind_grows : (m : MachineState) (kind : Option Kind) (body : List ℕ) → Grows (takes_no_memory kind) m (asked_kind m kind body)
 unfolding asked_kind
 kind_grows m None body h = absurd (cc)
-kind_grows m (Some kind) body h = test_grows m kind (is_built kind) (asked_by m (request_of kind body)) (read_grows m kind (request_of kind body) (λ request e. kind_of_request kind body request e)) h
+kind_grows m (Some kind) body h = read_grows m kind (request_of kind body) (λ request e. kind_of_request kind body request e) h
 
 started_grows : (never : Bool) (m : Option MachineState) (r : Result StartRecord Departure) → Grows never m (started_by r)
 unfolding started_by

@@ -20,7 +20,7 @@ use Rattle.dmn_desk.specs.declared.reading.Reading.TheVariants.{Nothing, Whole}
 use Rattle.dmn_desk.specs.declared.request.Request.{Request}
 use Rattle.dmn_desk.specs.Ask.{answer_of, answered, asked_by, asked_idle, asked_kind, held_then, idle_kind, started_by}
 use Rattle.dmn_desk.specs.Asked.{Answers, Begins, BeginsNot, OrMemory}
-use Rattle.dmn_desk.specs.Kinds.{is_built, kept_of, kind_of, reading_of, takes_no_memory}
+use Rattle.dmn_desk.specs.Kinds.{kept_of, kind_of, reading_of, takes_no_memory}
 use Rattle.dmn_desk.specs.Requests.{request_of}
 use Rattle.dmn_desk.proofs.Bodies.{front_decides, kind_of_request}
 use Rattle.dmn_commands.specs.declared.machine.Machine.{Machine}
@@ -30,19 +30,19 @@ use Rattle.dmn_commands.specs.Machines.{AnswersKind, AnswersNumber, AnswersStart
 -- ---- how much of a body is read
 
 -- a kind that is built is answered by what is kept of its body
-built_decides : (kind : Kind) (m : MachineState) (body : List ℕ) → request_of kind body ≡ request_of kind (kept_of (reading_of kind) body)
-built_decides kinds.Connect m body = refl
-built_decides kinds.Disconnect m body = front_decides kinds.Disconnect body refl
-built_decides kinds.Tip m body = front_decides kinds.Tip body refl
-built_decides kinds.List m body = front_decides kinds.List body refl
-built_decides kinds.Row m body = front_decides kinds.Row body refl
-built_decides kinds.Payees m body = front_decides kinds.Payees body refl
-built_decides kinds.Members m body = front_decides kinds.Members body refl
-built_decides kinds.Quorums m body = front_decides kinds.Quorums body refl
-built_decides kinds.Diff m body = refl
-built_decides kinds.Pin m body = front_decides kinds.Pin body refl
-built_decides kinds.Page m body = front_decides kinds.Page body refl
-built_decides kinds.Release m body = front_decides kinds.Release body refl
+kind_decides : (kind : Kind) (m : MachineState) (body : List ℕ) → request_of kind body ≡ request_of kind (kept_of (reading_of kind) body)
+kind_decides kinds.Connect m body = refl
+kind_decides kinds.Disconnect m body = front_decides kinds.Disconnect body refl
+kind_decides kinds.Tip m body = front_decides kinds.Tip body refl
+kind_decides kinds.List m body = front_decides kinds.List body refl
+kind_decides kinds.Row m body = front_decides kinds.Row body refl
+kind_decides kinds.Payees m body = front_decides kinds.Payees body refl
+kind_decides kinds.Members m body = front_decides kinds.Members body refl
+kind_decides kinds.Quorums m body = front_decides kinds.Quorums body refl
+kind_decides kinds.Diff m body = refl
+kind_decides kinds.Pin m body = front_decides kinds.Pin body refl
+kind_decides kinds.Page m body = front_decides kinds.Page body refl
+kind_decides kinds.Release m body = front_decides kinds.Release body refl
 
 -- what is read whole may be answered Memory
 whole_lacks : (kind : Kind) → reading_of kind ≡ Whole → takes_no_memory (Some kind) ≡ false
@@ -59,16 +59,12 @@ whole_lacks kinds.Pin is = refl
 whole_lacks kinds.Page is = refl
 whole_lacks kinds.Release is = absurd (cc)
 
-pub built_held : (number : ℕ) (kind : Kind) → kind_of number ≡ Some kind → DecidesHeld (reading_of kind) number
+pub kind_held : (number : ℕ) (kind : Kind) → kind_of number ≡ Some kind → DecidesHeld (reading_of kind) number
 unfolding asked_kind
-built_held number kind is = record {
-  same = λ m body. rw is (ap (λ (r : Result Request Departure). cond (is_built kind) (asked_by m r) (Short short.NotBuilt, m)) (built_decides kind m body));
+kind_held number kind is = record {
+  same = λ m body. rw is (ap (asked_by m) (kind_decides kind m body));
   lacks = λ whole. rw is (whole_lacks kind whole);
 }
-
-pub other_held : (number : ℕ) (kind : Kind) → kind_of number ≡ Some kind → is_built kind ≡ false → DecidesHeld Nothing number
-unfolding asked_kind
-other_held number kind is built = record { same = λ m body. rw (is, built) refl; lacks = λ whole. absurd (cc whole) }
 
 pub unknown_held : (number : ℕ) → kind_of number ≡ None → DecidesHeld Nothing number
 unfolding asked_kind
@@ -121,15 +117,11 @@ fault_answers kind body d at old is place m stands = (m, stands, inl (rw (is, pl
 pub lack_answers : (kind : Kind) (body : List ℕ) (old : Keeping) → kind ≡ kinds.Connect → AnswersKind kind body lack old old
 lack_answers kind body old is m stands = (m, stands, inr (rw is refl, refl, refl))
 
-pub kind_answers : (number : ℕ) (kind : Kind) (body : List ℕ) (answer : Answer) (old new : Keeping) → kind_of number ≡ Some kind → is_built kind ≡ true → AnswersKind kind body answer old new → AnswersNumber number body answer old new
+pub kind_answers : (number : ℕ) (kind : Kind) (body : List ℕ) (answer : Answer) (old new : Keeping) → kind_of number ≡ Some kind → AnswersKind kind body answer old new → AnswersNumber number body answer old new
 unfolding asked_kind
-kind_answers number kind body answer old new is built gives m stands =
+kind_answers number kind body answer old new is gives m stands =
     let next = gives m stands in
-    (next.0, next.1, rw (is, built) next.2)
-
-pub other_answers : (number : ℕ) (kind : Kind) (body : List ℕ) (old : Keeping) → kind_of number ≡ Some kind → is_built kind ≡ false → AnswersNumber number body (Short short.NotBuilt) old old
-unfolding asked_kind
-other_answers number kind body old is built m stands = (m, stands, inl (rw (is, built) refl))
+    (next.0, next.1, rw is next.2)
 
 pub unknown_answers : (number : ℕ) (body : List ℕ) (old : Keeping) → kind_of number ≡ None → AnswersNumber number body (Short (short.BadRequest 0)) old old
 unfolding asked_kind

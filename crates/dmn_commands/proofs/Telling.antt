@@ -51,6 +51,7 @@ only_memory (Short short.Memory) is = refl
 only_memory (Short (short.BadRequest at)) is = absurd (cc)
 only_memory (Short (short.NotHeld low high)) is = absurd (cc)
 only_memory (Short short.NoSuch) is = absurd (cc)
+only_memory (Short short.BaseAbove) is = absurd (cc)
 only_memory (Short short.PinsFull) is = absurd (cc)
 only_memory (Short short.PinUnknown) is = absurd (cc)
 only_memory (Short (short.Refused refusal)) is = absurd (cc)

@@ -27,7 +27,7 @@ pub struct Machine {
 }
 
 impl Registry {
-    // The answer to a request of a kind that is built.
+    // The answer to a request of a kind.
     fn ask(&mut self, alloc: Global, kind: Kind, body: &[u8]) -> Answer
         requires { length body.now ≤ LONGEST_BODY }
         ensures answers { AnswersKind kind body.now result self.old.branch self.new.branch }
@@ -50,13 +50,7 @@ impl Registry {
     {
         match Kind::of(number) {
             None => Answer::Short(ShortAnswer::BadRequest { at: 0 }),
-            Some(kind) => {
-                if kind.is_built() {
-                    self.ask(alloc, kind, body)
-                } else {
-                    Answer::Short(ShortAnswer::NotBuilt)
-                }
-            }
+            Some(kind) => self.ask(alloc, kind, body),
         }
     }
 }
@@ -67,13 +61,7 @@ fn reading_held(number: u8) -> Reading
 {
     match Kind::of(number) {
         None => Reading::Nothing,
-        Some(kind) => {
-            if kind.is_built() {
-                kind.reading()
-            } else {
-                Reading::Nothing
-            }
-        }
+        Some(kind) => kind.reading(),
     }
 }
 

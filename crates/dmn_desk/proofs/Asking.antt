@@ -19,7 +19,7 @@ use Rattle.dmn_desk.specs.declared.answer.Answer.{Answer}
 use Rattle.dmn_desk.specs.declared.answer.Answer.TheVariants.{Short}
 use Rattle.dmn_desk.specs.declared.request.Request.{Request}
 use Rattle.dmn_desk.specs.declared.request.Request.TheVariants as requests
-use Rattle.dmn_desk.specs.Ask.{ask, at_height, members_by, members_or_none, connect, disconnect, list_at, not_back, shortly, started_by, tip_of, members_at, payees_at, quorums_at, row_at}
+use Rattle.dmn_desk.specs.Ask.{ask, at_height, members_by, members_or_none, connect, diff, disconnect, list_at, not_back, shortly, started_by, tip_of, members_at, payees_at, quorums_at, row_at}
 use Rattle.dmn_desk.specs.Asked.{Answers, AnswersBlock, Begins, OrMemory, TakesBack}
 
 -- a start record is taken
@@ -82,6 +82,10 @@ members_answers request kind height answer old is gives m stands = (m, stands, r
 pub quorums_answers : (request : Request) (height : ℕ) (answer : Answer) (old : Keeping) → request ≡ requests.Quorums height → ((m : MachineState) → StandsFor old m → answer ≡ quorums_at m height) → Answers request answer old old
 unfolding ask
 quorums_answers request height answer old is gives m stands = (m, stands, rw is (inl (rw (gives m stands) refl)))
+
+pub diff_answers : (request : Request) (base block : Hash256) (answer : Answer) (old : Keeping) → request ≡ requests.Diff base block → ((m : MachineState) → StandsFor old m → answer ≡ diff m base block) → Answers request answer old old
+unfolding ask
+diff_answers request base block answer old is gives m stands = (m, stands, rw is (inl (rw (gives m stands) refl)))
 
 -- where the profile has the type, its members are those of the height
 pub typed : (m : MachineState) (kind height : ℕ) (o : Option QuorumParams) → is_some o ≡ true → at_height m height (λ state. members_or_none (members_in m kind state)) ≡ members_by m kind height o

@@ -1,26 +1,33 @@
 -- The answer of a machine to each request and to each frame, in the order of its checks, and the machine after it. Each is
 -- by what replay of the accepted commands holds (dmn_branch/specs/Machine.antt). Before its start record was taken there is
 -- no machine.
-use Rattle.std.specs.Prelude.{ℕ, ◌+◌, ◌==◌, List, length, nat_lt, if◌then◌else◌, is_some, Option, None, Some, Result, Ok, Err}
+use Rattle.std.specs.Prelude.{ℕ, ◌+◌, ◌==◌, Bool, false, List, length, map, filter, nat_lt, if◌then◌else◌, is_some, Option, None, Some, Result, Ok, Err}
 use Rattle.dmn_block.specs.declared.frame.BlockFrame.{BlockFrame}
 use Rattle.dmn_block.specs.declared.refusal.Refusal.{Refusal}
 use Rattle.dmn_block.specs.State.{State}
 use Rattle.dmn_branch.specs.declared.fault.DisconnectRefusal.{DisconnectRefusal}
 use Rattle.dmn_branch.specs.declared.fault.DisconnectRefusal.TheVariants as refusals
-use Rattle.dmn_branch.specs.Asked.{members_in, payees_of, quorums_in, row_of}
+use Rattle.dmn_branch.specs.Asked.{members_in, payees_of, quorums_in, row_of, rows_at}
+use Rattle.dmn_branch.specs.Coinbases.{coinbase_of}
+use Rattle.dmn_branch.specs.declared.coinbase.CoinbasePart.{CoinbasePart}
 use Rattle.dmn_branch.specs.Machine as machine
-use Rattle.dmn_branch.specs.Machine.{MachineState, begun, is_held, low, state_at, tip, top}
+use Rattle.dmn_branch.specs.Machine.{MachineState, begun, height_of, is_held, low, state_at, tip, top}
 use Rattle.dmn_branch.specs.Pins.{Pinned, free_number, page_of, pin_of}
 use Rattle.dmn_bytes.specs.declared.fault.Departure.{Departure}
 use Rattle.dmn_bytes.specs.declared.hash.Hash256.{Hash256}
 use Rattle.dmn_bytes.specs.Format.{whole}
 use Rattle.dmn_bytes.specs.Law.{place_of}
+use Rattle.dmn_bytes.specs.Points.{is_zero}
+use Rattle.dmn_diff.specs.Change.{change_of}
+use Rattle.dmn_diff.specs.Rows.{is_row_told}
 use Rattle.dmn_quorums.specs.Duty.{params_of}
 use Rattle.dmn_rows.specs.declared.profile.QuorumParams.{QuorumParams}
 use Rattle.dmn_rows.specs.declared.row.MnRow.{MnRow}
 use Rattle.dmn_rows.specs.declared.start.StartRecord.{StartRecord}
 use Rattle.dmn_rows.specs.Start.{start_record}
+use Rattle.dmn_sml.specs.declared.entry.SmlEntry.{SmlEntry}
 use Rattle.dmn_sml.specs.Defs.{root_of, simple}
+use Rattle.dmn_sml.specs.Entry.{entry_of}
 use Rattle.dmn_desk.specs.declared.answer.Answer.{Answer}
 use Rattle.dmn_desk.specs.declared.answer.Answer.TheVariants.{Short, Grown}
 use Rattle.dmn_desk.specs.declared.answer.GrownAnswer.TheVariants as grown
@@ -30,7 +37,7 @@ use Rattle.dmn_desk.specs.declared.kind.Kind.{Kind}
 use Rattle.dmn_desk.specs.declared.limits.TheConstants.{HEAD, LONGEST_BODY, START}
 use Rattle.dmn_desk.specs.declared.request.Request.{Request}
 use Rattle.dmn_desk.specs.declared.request.Request.TheVariants as requests
-use Rattle.dmn_desk.specs.Kinds.{is_built, kind_of}
+use Rattle.dmn_desk.specs.Kinds.{kind_of}
 use Rattle.dmn_desk.specs.Requests.{request_of}
 
 -- ---- requests
@@ -127,7 +134,43 @@ release m number = if is_some (pin_of m.pins number) then (short.Released, machi
 abbrev pub shortly : ShortAnswer × MachineState → Answer × MachineState
 shortly next = (Short next.0, next.1)
 
--- the answer to a request; of a kind that is not built it is NotBuilt
+-- ---- what changed between two blocks
+
+-- the entries of these rows that the base has not, or has another one in their place
+abbrev pub entries_told : List MnRow → List MnRow → List SmlEntry
+entries_told base rows = map entry_of (filter (is_row_told base) rows)
+
+-- the diff from the list of these rows to that of a state, whose block's coinbase proves it
+abbrev pub diff_by : Hash256 → List MnRow → State → Option CoinbasePart → Answer
+diff_by base rows state None = Short short.NoSuch
+diff_by base rows state (Some part) =
+    let change = change_of (simple rows) (simple state.rows) in
+    Grown (grown.Diff (record { base = base; block = state.hash; branch = part.branch; coinbase = part.tx; deleted = change.deleted; entries = change.entries }))
+
+abbrev pub diff_to : Hash256 → List MnRow → State → Answer
+diff_to base rows state = diff_by base rows state (coinbase_of state)
+
+-- no base, which is the empty list, is above nothing
+abbrev pub is_above : Option ℕ → ℕ → Bool
+is_above None height = false
+is_above (Some from) height = nat_lt height from
+
+abbrev pub diff_between : MachineState → Hash256 → Option ℕ → ℕ → Answer
+diff_between m base from height = if is_above from height then Short short.BaseAbove else of_state m (diff_to base (rows_at m from)) (state_at m height)
+
+abbrev pub diff_until : MachineState → Hash256 → Option ℕ → Option ℕ → Answer
+diff_until m base from None = not_held m
+diff_until m base from (Some height) = diff_between m base from height
+
+abbrev pub diff_since : MachineState → Hash256 → Hash256 → Option ℕ → Answer
+diff_since m base block None = not_held m
+diff_since m base block (Some from) = diff_until m base (Some from) (height_of m block)
+
+-- The base is held, or zero for the empty list; then the block is held, then not below the base, and then there is a block.
+unfoldable pub diff : MachineState → Hash256 → Hash256 → Answer
+diff m base block = if is_zero base.0 then diff_until m base None (height_of m block) else diff_since m base block (height_of m base)
+
+-- the answer to a request
 unfoldable pub ask : MachineState → Request → Answer × MachineState
 ask m (requests.Connect block body) = shortly (connect m block)
 ask m (requests.Disconnect hash) = shortly (disconnect m hash)
@@ -140,7 +183,7 @@ ask m (requests.Quorums height) = (quorums_at m height, m)
 ask m (requests.Pin height) = shortly (pin m height)
 ask m (requests.Page number from count) = (page m number from count, m)
 ask m (requests.Release number) = shortly (release m number)
-ask m (requests.Diff base block) = (Short short.NotBuilt, m)
+ask m (requests.Diff base block) = (diff m base block, m)
 
 -- ---- frames
 
@@ -162,7 +205,7 @@ not_built = Short short.NotBuilt
 
 unfoldable pub asked_kind : MachineState → Option Kind → List ℕ → Answer × MachineState
 asked_kind m None body = (unknown, m)
-asked_kind m (Some kind) body = if is_built kind then asked_by m (request_of kind body) else (not_built, m)
+asked_kind m (Some kind) body = asked_by m (request_of kind body)
 
 -- ---- before a start record was taken
 

@@ -1,5 +1,5 @@
 -- Requests and answers. A reader begins here; the parts are:
---   Kinds       the kinds of requests, by their numbers: which are built, how much of a body is read
+--   Kinds       the kinds of requests, by their numbers: how much of a body is read
 --   Requests    the request of each kind's body, or where the body departs
 --   Ask         the answer to each request and to each frame by what replay holds, and the machine after it
 --   Texts       status, body and frame of each answer, of the bodies in Framed; RuleFields has what a refusal tells

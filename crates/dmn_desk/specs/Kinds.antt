@@ -1,4 +1,4 @@
--- The kinds of requests: their numbers, which are built, how much of a body is read, and which may want memory.
+-- The kinds of requests: their numbers, how much of a body is read, and which may want memory.
 use Rattle.std.specs.Prelude.{ℕ, ◌==◌, Bool, true, false, if◌then◌else◌, List, [], take, Option, None, Some}
 use Rattle.dmn_desk.specs.declared.kind.Kind.{Kind}
 use Rattle.dmn_desk.specs.declared.kind.Kind.TheVariants.{Connect, Disconnect, Tip, List as ListKind, Row, Payees, Members, Quorums, Diff, Pin, Page, Release}
@@ -21,21 +21,6 @@ kind_of number =
     else if number == 11 then Some Page
     else if number == 12 then Some Release
     else None
-
--- the kinds that are answered by what is held; the others are answered NotBuilt
-abbrev pub is_built : Kind → Bool
-is_built Connect = true
-is_built Disconnect = true
-is_built Tip = true
-is_built ListKind = true
-is_built Row = true
-is_built Payees = true
-is_built Members = true
-is_built Quorums = true
-is_built Diff = false
-is_built Pin = true
-is_built Page = true
-is_built Release = true
 
 -- how much of a body is read
 abbrev pub reading_of : Kind → Reading

@@ -7,8 +7,9 @@ use Rattle.dmn_desk.specs.declared.answer.Answer.TheVariants as answers
 use Rattle.dmn_desk.specs.declared.answer.GrownAnswer.{GrownAnswer}
 use Rattle.dmn_desk.specs.declared.answer.GrownAnswer.TheVariants as grown
 use Rattle.dmn_desk.specs.declared.answer.ShortAnswer.{ShortAnswer}
-use Rattle.dmn_desk.specs.declared.answer.ShortAnswer.TheVariants.{Started, Connected, Disconnected, Tip, Pinned, Released, PinsFull, PinUnknown, Memory, BadRequest, NotHeld, Refused, NotTip, AtStart, TooDeep, NotBuilt, NoSuch}
+use Rattle.dmn_desk.specs.declared.answer.ShortAnswer.TheVariants.{Started, Connected, Disconnected, Tip, Pinned, Released, PinsFull, PinUnknown, Memory, BadRequest, NotHeld, Refused, NotTip, AtStart, TooDeep, NotBuilt, NoSuch, BaseAbove}
 use Rattle.dmn_desk.specs.Framed.{framed, connected_body, tip_body, held_body, list_body, refused_body, most_items, hashes_body, page_body, quorums_body}
+use Rattle.dmn_diff.specs.Defs.{diff_text}
 use Rattle.dmn_payloads.specs.declared.commitment.Commitment.{Commitment}
 use Rattle.dmn_rows.specs.RowText.{row_text}
 
@@ -23,6 +24,7 @@ short_status Memory = 1
 short_status (BadRequest at) = 2
 short_status (NotHeld low high) = 3
 short_status NoSuch = 4
+short_status BaseAbove = 5
 short_status PinsFull = 6
 short_status PinUnknown = 7
 short_status (Refused refusal) = 8
@@ -42,6 +44,7 @@ short_body Memory = []
 short_body (BadRequest at) = to_le_bytes w32 at
 short_body (NotHeld low high) = held_body low high
 short_body NoSuch = []
+short_body BaseAbove = []
 short_body PinsFull = []
 short_body PinUnknown = []
 short_body (Refused refusal) = refused_body refusal
@@ -57,6 +60,7 @@ grown_body (grown.Payees hashes) = hashes_body hashes
 grown_body (grown.Members hashes) = hashes_body hashes
 grown_body (grown.Quorums commitments) = quorums_body commitments
 grown_body (grown.Page entries) = page_body entries
+grown_body (grown.Diff diff) = diff_text diff
 
 -- an answer that grows is always an Ok
 abbrev pub status_of : Answer → ℕ
@@ -93,6 +97,7 @@ IsBounded (answers.Grown (grown.Payees hashes)) = length hashes ≤ most_items
 IsBounded (answers.Grown (grown.Members hashes)) = length hashes ≤ most_items
 IsBounded (answers.Grown (grown.Quorums commitments)) = IsSendable commitments
 IsBounded (answers.Grown (grown.Page entries)) = length entries ≤ most_items
+IsBounded (answers.Grown (grown.Diff diff)) = length (diff_text diff) < 2 ^ 32
 
 -- the length of the body fits its field
 abbrev pub Fits : Answer → Type 0

@@ -2,6 +2,7 @@
 
 use dmn_block::Refusal;
 use dmn_bytes::{Hash256, Items};
+use dmn_diff::Diff;
 use dmn_payloads::Commitment;
 use dmn_rows::MnRow;
 use dmn_sml::SmlEntry;
@@ -55,8 +56,10 @@ pub enum ShortAnswer {
         high: u32,
     },
     /// There is no such masternode in the list of a height that is held; or no such type of quorum, or no base of it at such a
-    /// height.
+    /// height; or no block that a diff could lead to.
     NoSuch,
+    /// The base is above the block.
+    BaseAbove,
     /// As many pins are live as may be, or the last number was given.
     PinsFull,
     /// No live pin has the number.
@@ -99,4 +102,6 @@ pub enum GrownAnswer {
     Quorums(Items<Commitment>),
     /// A part of a pinned list, as the entries of its rows. They are at most 65,535.
     Page(Items<SmlEntry>),
+    /// What changed in the list between two blocks. The length of its text fits the field of a frame.
+    Diff(Diff),
 }

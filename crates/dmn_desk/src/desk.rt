@@ -10,6 +10,7 @@ ghost use Rattle.dmn_desk.specs.Requests.{IsRequest};
 ghost use Rattle.dmn_desk.specs.Texts.{IsBounded};
 
 use crate::answer::{Answer, ShortAnswer};
+use crate::diff::diff_at;
 use crate::list::list_at;
 use crate::members::members_at;
 use crate::page::page_at;
@@ -123,7 +124,10 @@ impl Desk {
                 }
             }
             Request::Release { pin } => Answer::Short(release(branch, *pin)),
-            Request::Diff { .. } => Answer::Short(ShortAnswer::NotBuilt),
+            Request::Diff { base, block } => match diff_at(alloc, branch, base, block) {
+                Ok(answer) => answer,
+                Err(_) => Answer::Short(ShortAnswer::Memory),
+            },
         }
     }
 }

@@ -21,7 +21,7 @@ pub enum Kind {
 
 impl Kind {
     ghost use Rattle.std.specs.Prelude.{◌≡◌};
-    ghost use Rattle.dmn_desk.specs.Kinds.{is_built, kind_of, reading_of};
+    ghost use Rattle.dmn_desk.specs.Kinds.{kind_of, reading_of};
 
     /// The kind of this number.
     #[tactic(auto, unfolding(crate::specs::Kinds::kind_of))]
@@ -42,26 +42,6 @@ impl Kind {
             11 => Some(Kind::Page),
             12 => Some(Kind::Release),
             _ => None,
-        }
-    }
-
-    /// Whether requests of this kind are answered by what is held; the others are answered NotBuilt.
-    pub fn is_built(self) -> bool
-        ensures { result ≡ is_built self }
-    {
-        match self {
-            Kind::Connect
-            | Kind::Disconnect
-            | Kind::Tip
-            | Kind::List
-            | Kind::Row
-            | Kind::Payees
-            | Kind::Members
-            | Kind::Quorums
-            | Kind::Pin
-            | Kind::Page
-            | Kind::Release => true,
-            Kind::Diff => false,
         }
     }
 

@@ -4,6 +4,7 @@
 mod answer;
 mod body;
 mod desk;
+mod diff;
 mod hashes;
 mod height;
 mod kind;

@@ -7,6 +7,7 @@ use crate::answer::{Answer, GrownAnswer, ShortAnswer};
 use crate::body::{
     connected_body, empty_body, framed, hash_body, held_body, number_body, refused_body, tip_body,
 };
+use crate::diff::feed_diff;
 use crate::hashes::feed_hashes;
 use crate::list::feed_list;
 use crate::page::feed_page;
@@ -31,6 +32,7 @@ impl ShortAnswer {
             ShortAnswer::BadRequest { .. } => 2,
             ShortAnswer::NotHeld { .. } => 3,
             ShortAnswer::NoSuch => 4,
+            ShortAnswer::BaseAbove => 5,
             ShortAnswer::PinsFull => 6,
             ShortAnswer::PinUnknown => 7,
             ShortAnswer::Refused(_) => 8,
@@ -51,6 +53,7 @@ impl ShortAnswer {
             | ShortAnswer::Released
             | ShortAnswer::Memory
             | ShortAnswer::NoSuch
+            | ShortAnswer::BaseAbove
             | ShortAnswer::PinsFull
             | ShortAnswer::PinUnknown
             | ShortAnswer::AtStart
@@ -115,6 +118,11 @@ impl GrownAnswer {
             GrownAnswer::Page(entries) => {
                 let mut draft = Draft::on(out);
                 feed_page(entries.as_slice(), &mut draft);
+                draft.finish(out)
+            }
+            GrownAnswer::Diff(diff) => {
+                let mut draft = Draft::on(out);
+                feed_diff(diff, &mut draft);
                 draft.finish(out)
             }
         }

@@ -1,0 +1,11 @@
+use Rattle.std.proofs.Common.{◌≡◌, length, arith}
+use Rattle.dmn_bytes.proofs.Send.{sent_as, sent_then}
+use Rattle.dmn_diff.specs.Defs.{diff_text}
+use Rattle.dmn_desk.proofs.Diffing.{text_framed}
+use Rattle.dmn_desk.proofs.diff.feed_diff.Goals as goal
+
+pub returns : goal.returns
+returns g c =
+    let text = diff_text c.args.diff.now in
+    let long : length text ≡ c.text_length.result = omega (arith, c.text_length.ensures, c.requires) in
+    sent_as (text_framed c.text_length.result text long) (sent_then c.put.ensures (sent_then c.feed_count.ensures c.feed.ensures))

@@ -1,0 +1,9 @@
+mod Lengths
+mod Blocks
+mod Verdicts
+mod Keeping
+mod Records
+mod Syncing
+mod Once
+mod Resting
+mod Taking

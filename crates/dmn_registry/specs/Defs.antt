@@ -1,0 +1,5 @@
+-- A registry, as the contracts see it. A reader begins here; the parts are:
+--   Machine  a start record and the commands that were accepted, and one command more
+--   Own      images of a disk of which a machine is recovered, and a registry that stands for a machine on a disk
+--   Departs  where a file departs from a journal image
+--   Opening  what replay and opening answer

@@ -1,0 +1,6 @@
+pub mod Defs
+pub mod Machine
+pub mod Own
+pub mod Departs
+pub mod Opening
+pub mod Steps

@@ -1,0 +1,110 @@
+-- What replay and opening do.
+use Rattle.std.specs.Prelude.{◌≡◌, ℕ, ◌≤◌, Bool, true, false, List, ◌++◌, drop, Option, None, Some, Result, Ok, Err}
+use Rattle.dmn_block.specs.declared.fault.BlockFault.{BlockFault}
+use Rattle.dmn_block.specs.declared.fault.BlockFault.TheVariants as forms
+use Rattle.dmn_block.specs.declared.refusal.Refusal.{Refusal}
+use Rattle.dmn_branch.specs.Machine as blocks
+use Rattle.dmn_branch.specs.Machine.{Command, Connect, Disconnect, MachineState}
+use Rattle.dmn_branch.specs.Stands as branches
+use Rattle.dmn_branch.specs.Stands.{Keeping}
+use Rattle.dmn_branch.specs.declared.fault.DisconnectRefusal.{DisconnectRefusal}
+use Rattle.dmn_bytes.specs.Law.{place_of}
+use Rattle.dmn_bytes.specs.declared.fault.Departure.{Departure}
+use Rattle.dmn_bytes.specs.declared.fault.Memory.{Memory as NoMemory}
+use Rattle.dmn_block.specs.Defs.{IsBlock}
+use Rattle.dmn_journal.specs.Journal.{AreShort, Entry, blocks as records, header_text}
+use Rattle.dmn_journal.specs.declared.fault.JournalFault.{JournalFault}
+use Rattle.dmn_journal.specs.declared.fault.JournalFault.TheVariants.{DiskFault, Memory, NotJournal}
+use Rattle.dmn_outside.specs.Crashes.{AreSynced}
+use Rattle.dmn_outside.specs.Disk.{Three, Told, IfReads, all_reads, contents, nothing, whole}
+use Rattle.dmn_registry.specs.Departs.{DepartsAt, stop_by}
+use Rattle.dmn_registry.specs.Machine.{Accepts, Machine, command_of, verdict, with_entry}
+use Rattle.dmn_registry.specs.Own.{IsJournal, StandsFor, StandsOn, StandsOnFile}
+use Rattle.dmn_registry.specs.declared.command.Command as read
+use Rattle.dmn_registry.specs.declared.command.Command.TheVariants as commands
+use Rattle.dmn_registry.specs.declared.registry.Registry.{Registry}
+
+-- what reads give, where it is told
+abbrev pub reads_of : Told → Option (Three (List ℕ))
+reads_of nothing = None
+reads_of (contents c) = Some c
+reads_of (whole w) = Some (all_reads w.files)
+
+-- as far as it is told, nothing is pending
+abbrev pub IsQuiet : Told → Type 0
+IsQuiet nothing = Unit {0}
+IsQuiet (contents c) = Unit {0}
+IsQuiet (whole w) = AreSynced w.files
+
+-- ---- one record
+
+-- a command as it is read, as the machine of blocks sees it
+abbrev pub seen : read.Command → Command
+seen (commands.Connect block) = Connect block
+seen (commands.Disconnect hash) = Disconnect hash
+
+-- a block that was read keeps what blocks keep
+abbrev pub IsSound : read.Command → Type 0
+IsSound (commands.Connect block) = IsBlock block
+IsSound (commands.Disconnect hash) = Unit {0}
+
+-- what is read of an entry: its command, or where its body departs
+abbrev pub Reads : Result read.Command BlockFault → Entry → Type 0
+Reads (Ok command) entry = (command_of entry ≡ Ok (seen command)) × IsSound command
+Reads (Err (forms.BlockForm place)) entry = (departure : Departure) × (command_of entry ≡ Err departure) × (place_of departure ≡ place)
+Reads (Err forms.Memory) entry = Unit {0}
+
+-- the rules accept a command
+abbrev pub IsAllowed : MachineState → Command → Type 0
+IsAllowed s (Connect block) = blocks.connect s block ≡ Ok (blocks.with_block s block)
+IsAllowed s (Disconnect hash) = blocks.disconnect s hash ≡ Ok (blocks.without_tip s hash)
+
+-- the rules refuse it
+abbrev pub IsRefused : MachineState → Command → Type 0
+IsRefused s (Connect block) = (refusal : Refusal) × (blocks.connect s block ≡ Err refusal)
+IsRefused s (Disconnect hash) = (refusal : DisconnectRefusal) × (blocks.disconnect s hash ≡ Err refusal)
+
+-- a branch followed a command, or the rules refuse it
+abbrev pub Follows : Result Bool NoMemory → MachineState → Command → Keeping → Type 0
+Follows (Ok true) s command new = IsAllowed s command × branches.StandsFor new (blocks.with_command s command)
+Follows (Ok false) s command new = IsRefused s command
+Follows (Err lack) s command new = Unit {0}
+
+-- What taking a record did, by its answer: the machine with it; or the place that departs, where the gate is at this place.
+abbrev pub TakesRecord : Result (Unit {0}) JournalFault → Machine → Entry → ℕ → Registry → Type 0
+TakesRecord (Ok done) m entry at new = Accepts m entry (with_entry m entry) × StandsFor new (with_entry m entry)
+TakesRecord (Err (NotJournal place)) m entry at new = stop_by at (verdict m entry) ≡ Some place
+TakesRecord (Err DiskFault) m entry at new = Unit {0}
+TakesRecord (Err Memory) m entry at new = Unit {0}
+
+-- ---- all records
+
+-- the records that were read so far
+pub record Replayed (registry : Registry) (m : Machine) (told : Told) : Type 0 where
+  pub registry_stands : StandsFor registry m
+  pub short : AreShort m.commands
+  pub text : IfReads told (λ all. all.zeroth ≡ (header_text m.start ++ records m.commands) ++ drop registry.journal.end all.zeroth)
+
+-- What replay of file 0 answers: a registry that stands for the machine of the file; or the place where the file departs from a
+-- journal image.
+abbrev pub Replays : Result Registry JournalFault → Told → Type 0
+Replays (Ok registry) told = (m : Machine) × StandsFor registry m × IfReads told (λ all. IsJournal m all.zeroth)
+Replays (Err (NotJournal place)) told = IfReads told (λ all. DepartsAt all.zeroth place)
+Replays (Err DiskFault) told = Unit {0}
+Replays (Err Memory) told = Unit {0}
+
+-- ---- opening
+
+-- What opening answers: a registry that stands for a machine on the disk; or the place where file 0 departs from a journal image.
+abbrev pub Opens : Result Registry JournalFault → Told → Told → Type 0
+Opens (Ok registry) old new = (m : Machine) × StandsOnFile registry m new
+Opens (Err (NotJournal place)) old new = IfReads old (λ all. DepartsAt all.zeroth place)
+Opens (Err DiskFault) old new = Unit {0}
+Opens (Err Memory) old new = Unit {0}
+
+-- on an image of which this machine is recovered it is this machine, and nothing departs
+abbrev pub Recovers : Result Registry JournalFault → Machine → Told → Type 0
+Recovers (Ok registry) m new = StandsOn registry m new
+Recovers (Err (NotJournal place)) m new = ⊥
+Recovers (Err DiskFault) m new = Unit {0}
+Recovers (Err Memory) m new = Unit {0}

@@ -1,5 +1,5 @@
 -- How long the text of a start record is.
-use Rattle.std.proofs.Common.{◌≡◌, ℕ, ◌+◌, ◌*◌, ◌≤◌, ◌<◌, ◌^◌, List, [], ◌∷◌, ◌++◌, length, refl, sym, ap, ◌∙◌, arith, length-append}
+use Rattle.std.proofs.Common.{◌≡◌, ℕ, ◌*◌, ◌≤◌, List, [], ◌∷◌, ◌++◌, length, refl, arith, length-append}
 use Rattle.std.specs.Prelude.{Option}
 use Rattle.std.specs.Int.{w16, w32, to_le_bytes}
 use Rattle.dmn_branch.proofs.Starting.{start_bounds}
@@ -9,7 +9,7 @@ use Rattle.dmn_bytes.specs.declared.points.OutPoint.{OutPoint}
 use Rattle.dmn_bytes.specs.declared.points.Pay.{Pay}
 use Rattle.dmn_journal.specs.Journal.{header_text}
 use Rattle.dmn_rows.specs.Defs.{IsStart, start_text}
-use Rattle.dmn_rows.specs.Start.{behind_point, count_field, first_field, hash_field, most_outputs, outputs_field, point_of, profile_field, start_record, version_field}
+use Rattle.dmn_rows.specs.Start.{behind_point, count_field, first_field, hash_field, outputs_field, point_of, profile_field, start_record, version_field}
 use Rattle.dmn_rows.specs.declared.start.StartOutput.{StartOutput}
 use Rattle.dmn_rows.specs.declared.start.StartRecord.{StartRecord}
 

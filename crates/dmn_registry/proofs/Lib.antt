@@ -1,9 +1,10 @@
 mod Lengths
-mod Blocks
-mod Verdicts
+pub mod Blocks
+pub mod Verdicts
 mod Keeping
 mod Records
 mod Syncing
-mod Once
-mod Resting
+pub mod Once
+pub mod Resting
 mod Taking
+pub mod Between

@@ -1,25 +1,23 @@
 -- A file is the journal image of one machine, and departs nowhere.
-use Rattle.std.proofs.Common.{◌≡◌, ◌≢◌, ◌⊎◌, inl, inr, ℕ, suc, ◌+◌, ◌≤◌, ◌<◌, ◌^◌, List, [], ◌∷◌, ◌++◌, length, take, drop, refl, sym, ap, subst, ◌∙◌, arith, append_assoc, length-append, nat_lt, false}
+use Rattle.std.proofs.Common.{◌≡◌, ◌≢◌, inl, inr, ℕ, ◌+◌, ◌<◌, ◌^◌, List, [], ◌∷◌, ◌++◌, length, take, drop, refl, sym, ap, subst, ◌∙◌, arith, append_assoc, nat_lt, false}
 use Rattle.std.specs.Prelude.{Option, Some, None, Result, Ok, Err}
 use Rattle.std.specs.Int.{w32, to_le_bytes}
 use Rattle.std.proofs.lemmas.Bool.{le-ltb}
-use Rattle.std.proofs.lemmas.List.{append-nil, append_cancel_left, drop_at, take_at}
+use Rattle.std.proofs.lemmas.List.{append_cancel_left, take_at}
 use Rattle.std.proofs.lemmas.Nat.{from_le_bytes-to_le_bytes_4}
-use Rattle.dmn_bytes.specs.Format.{whole}
 use Rattle.dmn_bytes.specs.Sound.{ok_is, whole_again}
-use Rattle.dmn_bytes.specs.declared.fault.Departure.{Departure}
-use Rattle.dmn_journal.specs.Journal.{AreShort, Entry, HasCommands, blocks, entry_text, gate_place, header_text, magic}
-use Rattle.dmn_journal.specs.Reading.{Found, closed, departs, found, found_at, header_departs, later, place_in, start_at, start_departs}
+use Rattle.dmn_journal.specs.Journal.{AreShort, Entry, HasCommands, blocks, entry_text, header_text, magic}
+use Rattle.dmn_journal.specs.Reading.{Found, found, found_at, header_departs, later, place_in, start_at, start_departs}
 use Rattle.dmn_journal.specs.declared.fault.JournalFault.{JournalFault}
 use Rattle.dmn_journal.specs.declared.fault.JournalFault.TheVariants.{DiskFault, Memory, NotJournal}
 use Rattle.dmn_journal.proofs.Found.{other_closed, record_found}
 use Rattle.dmn_journal.proofs.Unique.{commands_once, entry_once}
-use Rattle.dmn_outside.specs.Crashes.{AreSynced, IsKnown, Rests}
+use Rattle.dmn_outside.specs.Crashes.{IsKnown, Rests}
 use Rattle.dmn_outside.specs.Disk.{IfReads, Three, Told, all_reads, contents, nothing, whole as all_told}
-use Rattle.dmn_registry.specs.Departs.{BeginsWith, DepartsAt, stop_at, stop_by}
-use Rattle.dmn_registry.specs.Machine.{Accepts, IsReplayed, Machine, Reaches, Verdict, begun, denied, formless, taken, verdict}
+use Rattle.dmn_registry.specs.Departs.{DepartsAt, stop_at, stop_by}
+use Rattle.dmn_registry.specs.Machine.{Accepts, Machine, Reaches, Verdict, begun, denied, formless, taken, verdict}
 use Rattle.dmn_registry.specs.Opening.{Opens, Recovers, Replays, IsQuiet, reads_of}
-use Rattle.dmn_registry.specs.Own.{IsJournal, IsOwn, StandsFor, StandsOn, StandsOnFile}
+use Rattle.dmn_registry.specs.Own.{IsJournal, IsOwn, StandsFor}
 use Rattle.dmn_registry.specs.declared.registry.Registry.{Registry}
 use Rattle.dmn_registry.proofs.Lengths.{start_long}
 use Rattle.dmn_registry.proofs.Syncing.{quiet_unread, rests_of}

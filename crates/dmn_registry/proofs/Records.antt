@@ -1,19 +1,18 @@
 -- Records that are read and taken, one after another.
-use Rattle.std.proofs.Common.{◌≡◌, inr, ℕ, ◌+◌, ◌≤◌, ◌<◌, ◌==◌, Bool, true, false, List, [], ◌∷◌, ◌++◌, length, drop, refl, sym, ap, subst, ◌∙◌, arith, append_assoc, if◌then◌else◌}
-use Rattle.std.specs.Prelude.{None, Some, Ok, Err, Result}
+use Rattle.std.proofs.Common.{◌≡◌, inr, ℕ, ◌+◌, ◌≤◌, ◌==◌, Bool, true, false, List, [], ◌∷◌, ◌++◌, length, drop, refl, sym, ap, ◌∙◌, arith, append_assoc, if◌then◌else◌}
+use Rattle.std.specs.Prelude.{Some, Ok, Err, Result}
 use Rattle.std.proofs.lemmas.List.{append-nil}
 use Rattle.dmn_branch.specs.Stands as branches
-use Rattle.dmn_branch.specs.Step.{profile_of}
 use Rattle.dmn_bytes.specs.Law.{place_of}
 use Rattle.dmn_bytes.specs.declared.fault.Departure.{Departure}
-use Rattle.dmn_journal.specs.Journal.{AreShort, Entry, HasCommands, IsShort, blocks, entry_text, gate_place, header_text, size_of_record}
+use Rattle.dmn_journal.specs.Journal.{AreShort, Entry, IsShort, blocks, entry_text, header_text, size_of_record}
 use Rattle.dmn_journal.specs.Reading.{Found, IsHeader, IsRecord, closed, departs, found, found_at}
 use Rattle.dmn_journal.specs.declared.fault.JournalFault.{JournalFault}
 use Rattle.dmn_journal.specs.declared.fault.JournalFault.TheVariants.{DiskFault, Memory, NotJournal}
 use Rattle.dmn_journal.proofs.Append.{blocks_push}
 use Rattle.dmn_journal.proofs.Found.{closed_gate, record_found}
 use Rattle.dmn_outside.specs.Changes.{unread}
-use Rattle.dmn_outside.specs.Disk.{Three, Told, IfReads}
+use Rattle.dmn_outside.specs.Disk.{Told, IfReads}
 use Rattle.dmn_outside.proofs.Reading.{reads_back, reads_both, reads_map}
 use Rattle.dmn_registry.specs.Departs.{BeginsWith, DepartsAt, stop_at, stop_by}
 use Rattle.dmn_registry.specs.Machine.{Machine, begun, command_of, journal_max, verdict, with_entry}
@@ -22,7 +21,7 @@ use Rattle.dmn_registry.specs.Own.{IsJournal, StandsFor}
 use Rattle.dmn_registry.specs.declared.registry.Registry.{Registry}
 use Rattle.dmn_registry.proofs.Keeping.{text_long}
 use Rattle.dmn_registry.proofs.Lengths.{header_long}
-use Rattle.dmn_registry.proofs.Verdicts.{is_denied, is_formless, is_too_long, state_more}
+use Rattle.dmn_registry.proofs.Verdicts.{is_denied, is_formless, is_too_long}
 use Rattle.dmn_branch.specs.Machine.{Command}
 use Rattle.dmn_registry.specs.Machine.{state_of, Verdict}
 use Rattle.dmn_rows.specs.declared.start.StartRecord.{StartRecord}

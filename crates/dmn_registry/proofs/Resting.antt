@@ -1,10 +1,10 @@
 -- A disk at rest with an own image, through one command.
-use Rattle.std.proofs.Common.{◌≡◌, ◌⊎◌, inl, inr, ℕ, ◌+◌, ◌<◌, ◌≤◌, List, [], ◌∷◌, ◌++◌, length, refl, sym, ◌∙◌, ap, subst, arith}
-use Rattle.std.specs.Prelude.{Result, Ok, Err, IsErrOf, None}
+use Rattle.std.proofs.Common.{◌≡◌, inl, inr, ℕ, ◌+◌, ◌<◌, List, refl, sym, ap, subst, arith}
+use Rattle.std.specs.Prelude.{Ok, Err, IsErrOf, None}
 use Rattle.dmn_branch.specs.Machine.{Command}
 use Rattle.dmn_outside.specs.Changes.{but, file_synced}
-use Rattle.dmn_outside.specs.Crashes.{AreSynced, LeavesOnly, Rests}
-use Rattle.dmn_outside.specs.Disk.{AreOver, DiskView, File, MayLeave, Three, Told, all_reads, contents, nothing, whole}
+use Rattle.dmn_outside.specs.Crashes.{LeavesOnly, Rests}
+use Rattle.dmn_outside.specs.Disk.{AreOver, DiskView, File, MayLeave, Three, Told, contents, nothing, whole}
 use Rattle.dmn_outside.proofs.Crash.{started, widened}
 use Rattle.dmn_journal.specs.Journal.{Appending, Entry, IsShort, Stands, gate_place, header_text, size_of_record}
 use Rattle.dmn_journal.specs.Reading.{entry_departs}

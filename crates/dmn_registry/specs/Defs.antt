@@ -3,3 +3,5 @@
 --   Own      images of a disk of which a machine is recovered, and a registry that stands for a machine on a disk
 --   Departs  where a file departs from a journal image
 --   Opening  what replay and opening answer
+--   Steps    what a connect and a disconnect did, by their answers
+--   Laws     that a file is the image of one machine, and what a disk at rest leaves

@@ -4,3 +4,4 @@ pub mod Own
 pub mod Departs
 pub mod Opening
 pub mod Steps
+pub mod Laws

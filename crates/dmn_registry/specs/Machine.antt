@@ -1,7 +1,7 @@
 -- The machine of a registry: a start record and the commands that were accepted since, as the journal keeps them, and one
 -- command more. What is held, and what the rules say of a command, is said by the machine of blocks; what is added here is the
 -- limit of the journal.
-use Rattle.std.specs.Prelude.{◌≡◌, ℕ, ◌==◌, nat_lt, if◌then◌else◌, List, [], ◌∷◌, ◌++◌, length, Option, None, Result, Ok, Err}
+use Rattle.std.specs.Prelude.{◌≡◌, ℕ, ◌==◌, nat_lt, if◌then◌else◌, List, [], ◌∷◌, ◌++◌, length, None, Result, Ok, Err}
 use Rattle.dmn_block.specs.Body.{connect_body}
 use Rattle.dmn_block.specs.Frames.{frame_of}
 use Rattle.dmn_block.specs.declared.body.ConnectBody.{ConnectBody}

@@ -1,5 +1,5 @@
 -- What replay and opening do.
-use Rattle.std.specs.Prelude.{◌≡◌, ℕ, ◌≤◌, Bool, true, false, List, ◌++◌, drop, Option, None, Some, Result, Ok, Err}
+use Rattle.std.specs.Prelude.{◌≡◌, ℕ, Bool, true, false, List, ◌++◌, drop, Option, None, Some, Result, Ok, Err}
 use Rattle.dmn_block.specs.declared.fault.BlockFault.{BlockFault}
 use Rattle.dmn_block.specs.declared.fault.BlockFault.TheVariants as forms
 use Rattle.dmn_block.specs.declared.refusal.Refusal.{Refusal}

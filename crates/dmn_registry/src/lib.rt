@@ -4,9 +4,11 @@
 mod command;
 mod commands;
 mod fault;
+mod laws;
 mod opening;
 mod registry;
 mod replaying;
 
 pub use fault::{ConnectFault, DisconnectFault};
+pub use laws::{at_rest_is_own, journals_depart_nowhere, one_machine};
 pub use registry::{OpenFault, Registry};

@@ -1,4 +1,3 @@
-use Rattle.std.proofs.Common.{◌≡◌, ap, arith, sym, ◌∙◌}
 use Rattle.dmn_journal.specs.Reads.{entry_of}
 use Rattle.dmn_registry.proofs.Blocks.{body_form, connect_command, connect_fault, disconnect_command}
 use Rattle.dmn_registry.proofs.command.read_command.Goals as goal

@@ -1,4 +1,4 @@
-use Rattle.std.proofs.Common.{◌∙◌, ◌≡◌, OnOk, Ok, Err, Result}
+use Rattle.std.proofs.Common.{◌∙◌}
 use Rattle.dmn_outside.specs.Disk.{MayLeave}
 use Rattle.dmn_outside.proofs.Crash.{started, syncs}
 use Rattle.dmn_registry.proofs.Syncing.{back, quiet, sync_bytes, sync_reads, told_of}

@@ -1,4 +1,4 @@
-use Rattle.std.proofs.Common.{rules, ◌≡◌, ◌+◌, ◌∙◌, ap, arith, refl}
+use Rattle.std.proofs.Common.{rules, ap, arith, refl}
 use Rattle.dmn_journal.specs.Reads.{entry_of}
 use Rattle.dmn_outside.proofs.Reading.{reads_then}
 use Rattle.dmn_registry.specs.Machine.{begun, state_of, with_entry}

@@ -1,10 +1,10 @@
-use Rattle.std.proofs.Common.{rules, ◌≡◌, ℕ, ◌+◌, ◌<◌, ap, arith, refl}
+use Rattle.std.proofs.Common.{◌≡◌, ◌+◌, ◌<◌, ap, arith, refl}
 use Rattle.dmn_branch.specs.Machine.{Command, Disconnect}
 use Rattle.dmn_branch.specs.Machine as blocks
-use Rattle.dmn_outside.specs.Disk.{DiskView, Told}
+use Rattle.dmn_outside.specs.Disk.{DiskView}
 use Rattle.dmn_rows.specs.declared.profile.Profile.{Profile}
 use Rattle.dmn_journal.specs.Journal.{Entry, IsShort, header_text, size_of_record}
-use Rattle.dmn_registry.specs.Machine.{Machine, disconnecting, state_of}
+use Rattle.dmn_registry.specs.Machine.{disconnecting, state_of}
 use Rattle.dmn_registry.proofs.Blocks.{disconnect_command, disconnect_form}
 use Rattle.dmn_registry.proofs.Resting.{idle, is_fault, no_fault, other_fault, rests_stands}
 use Rattle.dmn_registry.proofs.Taking.{fits, run, same_stands, too_long, took}

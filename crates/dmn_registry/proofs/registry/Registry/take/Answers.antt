@@ -1,4 +1,4 @@
-use Rattle.std.proofs.Common.{◌≡◌, ◌+◌, ◌<◌, ap, arith, refl}
+use Rattle.std.proofs.Common.{arith, refl}
 use Rattle.dmn_journal.specs.Reads.{entry_of}
 use Rattle.dmn_registry.specs.Machine.{state_of}
 use Rattle.dmn_registry.specs.Opening.{seen}

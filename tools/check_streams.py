@@ -20,7 +20,7 @@ import subprocess
 import sys
 
 # Diff. A stage that builds it takes it away here.
-LACKING = {9}
+LACKING = set()
 START = 32
 NOT_BUILT = bytes([13, 0, 0, 0, 0])
 LONGEST = 16_777_216

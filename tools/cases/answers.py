@@ -2,7 +2,8 @@
 
 import ipaddress
 
-from wire import NO_SERVICE, commitment_text, entry_text, frame, list_root, number, pay_of, pay_text, point_text, service_text
+from wire import (NO_SERVICE, commitment_text, entry_text, first_branch, frame, list_root, listed, number, pay_of, pay_text,
+                  point_text, service_text)
 from words import Mistake, bytes_of
 
 CONNECT, DISCONNECT, TIP, LIST, ROW, PAYEES, MEMBERS, QUORUMS, DIFF, PIN, PAGE, RELEASE = range(1, 13)
@@ -131,11 +132,13 @@ class Wanted:
         if self.kind == QUORUMS:
             texts = self.commitments()
             return number(len(texts), 2) + b"".join(texts)
+        if self.kind == DIFF:
+            return self.diff()
         if self.kind not in OK_FIELDS:
             raise Mistake("no words are known for an Ok to this request")
         text = self.fields(OK_FIELDS[self.kind])
         if self.kind in (LIST, PAGE):
-            entries = sorted((entry for line in self.below for entry in self.entries(line)), key=lambda e: e["hash"])
+            entries = self.listed()
             texts = b"".join(entry_text(entry) for entry in entries)
             if self.kind == PAGE:
                 return number(len(entries), 2) + texts
@@ -151,6 +154,26 @@ class Wanted:
                 self.words.wants(",")
             found.append(self.words.id())
         return found
+
+    def listed(self):
+        """The entries below the answer, in the order of their hashes."""
+        return sorted((entry for line in self.below for entry in self.entries(line)), key=lambda e: e["hash"])
+
+    def diff(self):
+        """'from HASH to HASH', behind a comma 'deleted' and the masternodes that are gone, and below it entries."""
+        self.words.wants("from")
+        base = self.words.hash()
+        self.words.wants("to")
+        target = self.words.hash()
+        state = next((state for state in self.words.case.states if state.hash == target and state.coinbase), None)
+        if state is None:
+            raise Mistake("no block has this hash")
+        gone = []
+        if self.words.takes(","):
+            self.words.wants("deleted")
+            gone = self.hashes()
+        return (base + target + first_branch(list(state.ids)) + state.coinbase.text() + listed(sorted(gone))
+                + listed([entry_text(entry) for entry in self.listed()]))
 
     def commitments(self):
         found = []

@@ -128,6 +128,8 @@ class Block:
         txs = self.spent(working)
         self.ids_root = merkle_root([tx.id() for tx in txs])
         self.after = working.state(self.hash)
+        self.after.coinbase = txs[0] if txs else None
+        self.after.ids = tuple(tx.id() for tx in txs)
         merkle = self.ids_root if self.merkle is None else self.merkle
         verdicts = [verdict_text(*verdict) for verdict in self.verdicts or verdicts]
         return block_text(self.hash, header_text(self.previous, merkle, **self.header), [tx.text() for tx in txs],

@@ -2,7 +2,7 @@
 
 from dataclasses import dataclass, field
 
-from answers import LIST, PAGE, Wanted
+from answers import DIFF, LIST, PAGE, Wanted
 from requests import Step, read_request
 from words import Mistake, Words
 
@@ -157,7 +157,7 @@ class Case:
 
     def wanted(self, line):
         """The answers to what was asked last. Below that to a list stand its entries."""
-        has_entries = self.last.kind in (LIST, PAGE) and not line.text.startswith("= bytes")
+        has_entries = self.last.kind in (LIST, PAGE, DIFF) and not line.text.startswith("= bytes")
         words = Words(line.text if has_entries else line.whole(), self)
         words.wants("=")
         if self.last.steps:

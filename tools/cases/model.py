@@ -67,6 +67,9 @@ class State:
     rows: dict = field(default_factory=dict)
     outputs: dict = field(default_factory=dict)
     mined: frozenset = frozenset()
+    # the first transaction of the block, and the ids of all
+    coinbase: object = None
+    ids: tuple = ()
 
     def root(self):
         return list_root([row.entry() for row in self.rows.values()])

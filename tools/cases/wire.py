@@ -184,6 +184,18 @@ def merkle_root(hashes):
     return hashes[0]
 
 
+def first_branch(hashes):
+    """The text of the branch that proves the first of these hashes: their count, it and its right siblings, and flags."""
+    branch, level = hashes[:1], hashes
+    while len(level) > 1:
+        branch.append(level[1])
+        pairs = level + level[-1:] if len(level) % 2 else level
+        level = [dsha(pairs[n] + pairs[n + 1]) for n in range(0, len(pairs), 2)]
+    depth = len(branch) - 1
+    flags = number((1 << depth + 1) - 1, (2 * depth + 8) // 8)
+    return number(len(hashes), 4) + listed(branch) + blob(flags)
+
+
 def entry_text(e):
     """An entry of the simplified list, 151 bytes."""
     return (e["hash"] + e["confirmed"] + service_text(e["service"]) + e["operator"] + e["voting"]

@@ -9,6 +9,7 @@ use Rattle.dmn_block.specs.declared.frame.BlockFrame.{BlockFrame}
 use Rattle.dmn_block.specs.declared.refusal.Refusal.{Refusal}
 use Rattle.dmn_branch.specs.Machine as blocks
 use Rattle.dmn_branch.specs.Machine.{Command, Connect, Disconnect, MachineState}
+use Rattle.dmn_branch.specs.Pins.{no_pins}
 use Rattle.dmn_branch.specs.Step.{profile_of}
 use Rattle.dmn_branch.specs.declared.fault.DisconnectRefusal.{DisconnectRefusal}
 use Rattle.dmn_bytes.specs.Format.{whole}
@@ -60,7 +61,7 @@ commands_of (entry ∷ entries) = listed (command_of entry) ++ commands_of entri
 
 -- the machine of blocks after these commands
 abbrev pub state_of : Machine → MachineState
-state_of m = record { start = m.start; commands = commands_of m.commands }
+state_of m = record { start = m.start; commands = commands_of m.commands; pins = no_pins }
 
 -- ---- one command more
 

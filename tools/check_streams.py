@@ -6,12 +6,9 @@
 A stream is a line 'run feed' with lines 'in BYTES', 'out BYTES' and 'code N' behind it. Bytes are pieces of hex digits, and
 'HEX*COUNT' is a piece so many times. Other lines are passed over.
 
-The model answers for one stage, the program for what is built of it. Two things are put right, and neither changes another
-answer of the stream:
-
-- A request of a kind that the program does not build yet is sent, and NotBuilt is wanted: Diff, which only asks.
-- A request that the model answers NotBuilt, behind the start, though the program builds its kind, is left out: NotBuilt
-  changes nothing.
+The model answers for one stage, the program for what is built of it. A request that the model answers NotBuilt, behind the
+start, though the program builds its kind, is left out: NotBuilt changes nothing, and so no other answer of the stream is
+another then.
 
 Where a stream differs it says which answer that is, and ends with code 1."""
 
@@ -19,8 +16,6 @@ import collections
 import subprocess
 import sys
 
-# Diff. A stage that builds it takes it away here.
-LACKING = set()
 START = 32
 NOT_BUILT = bytes([13, 0, 0, 0, 0])
 LONGEST = 16_777_216
@@ -69,10 +64,7 @@ def put_right(asked, wanted, seen):
     is_begun = False
     for request, answer in zip(asked, wanted):
         kind = request[0]
-        if kind in LACKING and len(request) <= HEAD + LONGEST:
-            seen["answers of kinds that are not built"] += 1
-            answer = NOT_BUILT
-        elif is_begun and answer == NOT_BUILT:
+        if is_begun and answer == NOT_BUILT:
             seen["left out"] += 1
             continue
         is_begun = is_begun or (kind == START and answer[0] == 0)

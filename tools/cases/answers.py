@@ -312,6 +312,9 @@ class Shown:
         elif status == 0 and self.kind == PAGE:
             told.append("entries: %d" % int.from_bytes(rest[:2], "little"))
             below, rest = self.entries(rest[2:]), b""
+        elif status == 0 and self.kind == DIFF:
+            told.append("from %s to %s, bytes: %d" % (self.hash(rest[:32]), self.hash(rest[32:64]), len(rest)))
+            rest = b""
         if rest:
             told.append("bytes %s" % rest.hex())
         return ["%s %s" % (name, ", ".join(told)) if told else name] + below

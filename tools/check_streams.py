@@ -18,7 +18,6 @@ import sys
 
 START = 32
 NOT_BUILT = bytes([13, 0, 0, 0, 0])
-LONGEST = 16_777_216
 HEAD = 5
 
 

@@ -10,11 +10,12 @@ use Rattle.dmn_outside.specs.Line.{Talk}
 use Rattle.dmn_desk.specs.declared.answer.Answer.{Answer}
 use Rattle.dmn_desk.specs.Texts.{Fits, frame_of}
 use Rattle.dmn_commands.specs.declared.machine.Machine.{Machine}
-use Rattle.dmn_commands.specs.Frames.{Frame, frame_at, Begins}
+use Rattle.dmn_frames.specs.Frames.{Frame, frame_at, Begins}
 use Rattle.dmn_commands.specs.Machines.{Stands}
 use Rattle.dmn_commands.specs.Outcome.{Answered, BrokeOff, Sent, most}
 use Rattle.dmn_commands.specs.Serving.{MayAnswer, Serves}
-use Rattle.dmn_commands.specs.Steps.{Faulted, SentPart, Turned}
+use Rattle.dmn_commands.specs.Steps.{Turned}
+use Rattle.dmn_frames.specs.Steps.{Faulted, SentPart}
 
 Begins-more : (text : List ℕ) (frames : List Frame) (left : List ℕ) (frame : Frame) (after : List ℕ) → Begins text frames left → frame_at left ≡ Some (frame, after) → Begins text (frames ++ frame ∷ []) after
 Begins-more text [] left frame after b e = (after, ap frame_at (sym b) ∙ e, refl)

@@ -11,7 +11,8 @@ use Rattle.dmn_desk.specs.declared.answer.Answer.TheVariants.{Short, Grown}
 use Rattle.dmn_desk.specs.declared.answer.ShortAnswer.{ShortAnswer}
 use Rattle.dmn_desk.specs.declared.answer.ShortAnswer.TheVariants as short
 use Rattle.dmn_desk.specs.declared.kind.Kind.{Kind}
-use Rattle.dmn_desk.specs.declared.limits.TheConstants.{LONGEST_BODY, START}
+use Rattle.dmn_desk.specs.declared.limits.TheConstants.{START}
+use Rattle.dmn_frames.specs.declared.limits.TheConstants.{LONGEST_BODY}
 use Rattle.dmn_desk.specs.declared.request.Request.{Request}
 use Rattle.dmn_desk.specs.declared.request.Request.TheVariants as requests
 use Rattle.dmn_desk.specs.Ask.{answered, ask, asked, asked_by, asked_idle, asked_kind, idle_kind, started_by, unknown}

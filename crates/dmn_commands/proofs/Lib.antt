@@ -2,7 +2,6 @@ pub mod Cutting
 pub mod Feeding
 pub mod Fronts
 pub mod Growing
-pub mod Heading
 pub mod Spending
 pub mod Stamping
 pub mod Standing

@@ -2,30 +2,14 @@
 use Rattle.std.proofs.Common.{◌≡◌, ℕ, List, [], ◌∷◌, ◌++◌, length, take, refl, sym, ap, subst, ◌∙◌, append_assoc, arith, inl, inr}
 use Rattle.std.specs.List.{All, flat_map}
 use Rattle.std.proofs.lemmas.List.{append-nil, length-append}
-use Rattle.std.proofs.lemmas.List.Elements.{All-nil, All-push, All-weaker}
+use Rattle.std.proofs.lemmas.List.Elements.{All-nil, All-push}
 use Rattle.std.proofs.lemmas.Grind.{flat_map-append}
-use Rattle.dmn_outside.specs.Counts.{IsBetween, Rose}
-use Rattle.dmn_outside.specs.Line.{LineView, Moments, Talk}
-use Rattle.dmn_outside.specs.Pieces.{StampsAfter}
+use Rattle.dmn_outside.specs.Line.{LineView, Talk}
 use Rattle.dmn_desk.specs.declared.answer.Answer.{Answer}
 use Rattle.dmn_desk.specs.Texts.{Fits, frame_of}
-use Rattle.dmn_commands.specs.Steps.{Emptied, Faulted, SentPart}
-use Rattle.dmn_commands.specs.Stamps.{InTurns, IsBehind, IsPart, SentInTurns, StampsBehind}
-
-is_behind : (from read to m : ℕ) → Rose from read → IsBetween read to m → IsBehind from to m
-is_behind from read to m rose h = record { behind = omega (arith, h.since, rose); until = h.until }
-
--- a frame was read, and then bytes were sent
-pub stamps_behind : (from read to n : ℕ) (x a z : Moments) → Rose from read → a ≡ x → StampsAfter read to n a z → StampsBehind from to x z
-stamps_behind from read to n x a z rose same s = record {
-  more = s.more;
-  each = All-weaker (IsBetween read to) (IsBehind from to) (λ m h. is_behind from read to m rose h) s.more s.each;
-  after = s.after ∙ ap (λ (m : Moments). record m { sent = m.sent ++ s.more }) same;
-}
-
--- nothing was sent
-pub behind_none : (from to : ℕ) (x y : Moments) → y ≡ x → StampsBehind from to x y
-behind_none from to x y e = record { more = []; each = All-nil (IsBehind from to); after = e ∙ ap (λ (l : List ℕ). record x { sent = l }) (sym (append-nil x.sent)) }
+use Rattle.dmn_frames.specs.Stamps.{IsBehind, StampsBehind}
+use Rattle.dmn_frames.specs.Steps.{Emptied, Faulted, SentPart}
+use Rattle.dmn_commands.specs.Stamps.{InTurns, IsPart, SentInTurns}
 
 in_turns_more : (from mid to : ℕ) (answers : List Answer) (stamps here : List ℕ) (answer : Answer) → InTurns from answers stamps mid → length here ≡ length (frame_of answer) → All (IsBehind mid to) here → InTurns from (answers ++ answer ∷ []) (stamps ++ here) to
 in_turns_more from mid to [] stamps here answer t long each = (

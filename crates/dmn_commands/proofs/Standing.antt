@@ -14,13 +14,15 @@ use Rattle.dmn_desk.specs.declared.answer.ShortAnswer.{ShortAnswer}
 use Rattle.dmn_desk.specs.declared.answer.ShortAnswer.TheVariants as short
 use Rattle.dmn_desk.specs.declared.kind.Kind.{Kind}
 use Rattle.dmn_desk.specs.declared.kind.Kind.TheVariants as kinds
-use Rattle.dmn_desk.specs.declared.limits.TheConstants.{LONGEST_BODY, START}
-use Rattle.dmn_desk.specs.declared.reading.Reading.{Reading}
-use Rattle.dmn_desk.specs.declared.reading.Reading.TheVariants.{Nothing, Whole}
+use Rattle.dmn_desk.specs.declared.limits.TheConstants.{START}
+use Rattle.dmn_frames.specs.declared.limits.TheConstants.{LONGEST_BODY}
+use Rattle.dmn_frames.specs.declared.reading.Reading.{Reading}
+use Rattle.dmn_frames.specs.declared.reading.Reading.TheVariants.{Nothing, Whole}
 use Rattle.dmn_desk.specs.declared.request.Request.{Request}
 use Rattle.dmn_desk.specs.Ask.{answer_of, answered, asked_by, asked_idle, asked_kind, held_then, idle_kind, started_by}
 use Rattle.dmn_desk.specs.Asked.{Answers, Begins, BeginsNot, OrMemory}
-use Rattle.dmn_desk.specs.Kinds.{kept_of, kind_of, reading_of, takes_no_memory}
+use Rattle.dmn_frames.specs.Reading.{kept_of}
+use Rattle.dmn_desk.specs.Kinds.{kind_of, reading_of, takes_no_memory}
 use Rattle.dmn_desk.specs.Requests.{request_of}
 use Rattle.dmn_desk.proofs.Bodies.{front_decides, kind_of_request}
 use Rattle.dmn_commands.specs.declared.machine.Machine.{Machine}

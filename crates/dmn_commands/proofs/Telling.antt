@@ -13,20 +13,11 @@ use Rattle.dmn_desk.specs.declared.answer.Answer.TheVariants.{Short, Grown}
 use Rattle.dmn_desk.specs.declared.answer.ShortAnswer.TheVariants as short
 use Rattle.dmn_desk.specs.Framed.{framed}
 use Rattle.dmn_desk.specs.Texts.{Fits, body_of, frame_of, status_of}
-use Rattle.dmn_commands.specs.Frames.{Frame, frame_at, Begins, Cuts}
+use Rattle.dmn_frames.specs.Frames.{Frame, frame_at, Begins}
 use Rattle.dmn_commands.specs.Laws.{AnswersTellOfMemory, as_frame}
 use Rattle.dmn_commands.specs.Machines.{lack}
-use Rattle.dmn_commands.proofs.Cutting.{nothing_at_end, same_cut}
-
--- a frame at the front of a text, by its size in four bytes
-frame_by : (kind size : ℕ) (body rest : List ℕ) → size < 2 ^ 32 → size ≡ length body → frame_at (kind ∷ (to_le_bytes w32 size ++ (body ++ rest))) ≡ Some (record { kind = kind; body = body }, rest)
-unfolding frame_at
-frame_by kind size body rest fits is =
-    let back : from_le_bytes w32 (to_le_bytes w32 size) ≡ size = from_le_bytes-to_le_bytes_4 size fits in
-    let enough : size ≤ length (body ++ rest) = omega (arith, length-append body rest) in
-    let front : take size (body ++ rest) ≡ body = take-append-le size body rest (omega arith) ∙ take_all size body (omega arith) in
-    let behind : drop size (body ++ rest) ≡ rest = drop-append-le size body rest (omega arith) ∙ ap (λ (l : List ℕ). l ++ rest) (drop_all size body (omega arith)) in
-    rw (back, le-ltb (length (body ++ rest)) size enough, front, behind) refl
+use Rattle.dmn_frames.proofs.Cutting.{nothing_at_end, same_cut}
+use Rattle.dmn_frames.proofs.Framing.{frame_by}
 
 one_frame : (answer : Answer) (rest : List ℕ) → Fits answer → frame_at (frame_of answer ++ rest) ≡ Some (as_frame answer, rest)
 unfolding framed

@@ -1,20 +1,21 @@
 -- A frame that is taken and answered.
-use Rattle.std.proofs.Common.{◌≡◌, ℕ, false, inl, inr, List, [], ◌++◌, length, take, drop, refl, sym, ap, subst, ◌∙◌, lit<}
-use Rattle.std.proofs.lemmas.Bool.{le-ltb, lt-ltb}
-use Rattle.std.specs.Prelude.{Option, None}
+use Rattle.std.proofs.Common.{◌≡◌, ℕ, false, inl, inr, List, ◌++◌, length, take, drop, refl, sym, ap, subst, ◌∙◌, lit<}
+use Rattle.std.proofs.lemmas.Bool.{le-ltb}
+use Rattle.std.specs.Prelude.{Option}
 use Rattle.dmn_branch.specs.Machine.{MachineState}
 use Rattle.dmn_outside.specs.Line.{Talk}
-use Rattle.dmn_outside.specs.Pieces.{Ended, SentFront}
+use Rattle.dmn_outside.specs.Pieces.{SentFront}
 use Rattle.dmn_desk.specs.declared.answer.Answer.{Answer}
 use Rattle.dmn_desk.specs.declared.answer.Answer.TheVariants.{Short, Grown}
 use Rattle.dmn_desk.specs.Texts.{Fits, frame_of, is_short, short_body}
 use Rattle.dmn_commands.specs.declared.machine.Machine.{Machine}
-use Rattle.dmn_commands.specs.Frames.{Frame, frame_at}
+use Rattle.dmn_frames.specs.Frames.{Frame}
 use Rattle.dmn_commands.specs.Machines.{MayServe, lack}
 use Rattle.dmn_commands.specs.Serving.{MayAnswer}
-use Rattle.dmn_commands.specs.Steps.{Asked, Emptied, Faulted, Headed, RepliesTo, SentPart, Turned}
+use Rattle.dmn_commands.specs.Steps.{Asked, RepliesTo, Turned}
+use Rattle.dmn_frames.specs.Steps.{Headed, SentPart}
 use Rattle.dmn_commands.proofs.Growing.{answer_grows}
-use Rattle.dmn_commands.proofs.Heading.{faulted_behind}
+use Rattle.dmn_frames.proofs.Turns.{sent_part, sent_whole}
 
 -- the frame, and what is left behind it
 pub turned : (m n : Machine) (answer : Answer) (kind size : ℕ) (x h a : Talk) (left : List ℕ) → Headed kind size x h → Asked m kind size answer n h a → Fits answer → left ≡ a.left → Turned m answer n x.left left
@@ -32,31 +33,6 @@ pub taken : (m n : Machine) (answer : Answer) (kind size : ℕ) (x h a : Talk) �
 taken m n answer kind size x h a head asked =
     let left : a.left ≡ drop size h.left = ap (λ (t : Talk). t.left) asked.took.after in
     asked.took.after ∙ ap (λ (t : Talk). record t { left = drop size h.left }) head.after ∙ ap (λ (l : List ℕ). record x { left = l }) (sym left)
-
--- its whole answer is sent
-pub sent_whole : (x a z : Talk) (bytes : List ℕ) → a ≡ record x { left = a.left } → z ≡ record a { sent = a.sent ++ bytes } → z ≡ record x { left = z.left; sent = x.sent ++ bytes }
-sent_whole x a z bytes took sent =
-    let left : z.left ≡ a.left = ap (λ (t : Talk). t.left) sent in
-    sent ∙ ap (λ (t : Talk). record t { sent = t.sent ++ bytes }) took ∙ ap (λ (l : List ℕ). record x { left = l; sent = x.sent ++ bytes }) (sym left)
-
--- a part of its answer is sent
-pub sent_part : (x a z : Talk) (bytes : List ℕ) → a ≡ record x { left = a.left } → SentFront bytes a z → SentPart bytes x z
-sent_part x a z bytes took s =
-    let left : z.left ≡ a.left = ap (λ (t : Talk). t.left) s.after in
-    record {
-      count = s.count;
-      few = s.few;
-      own = s.own;
-      after = s.after ∙ ap (λ (t : Talk). record t { sent = t.sent ++ take s.count bytes; own = z.own }) took ∙ ap (λ (l : List ℕ). record x { left = l; sent = x.sent ++ take s.count bytes; own = z.own }) (sym left);
-    }
-
--- the line broke within the frame's body
-pub faulted_within : (kind size : ℕ) (x h z : Talk) → Headed kind size x h → Faulted h z → Faulted x z
-faulted_within kind size x h z head f = faulted_behind 5 x h z (subst (λ (l : List ℕ). h ≡ record x { left = l }) head.taken head.after) f
-
--- the input ended within the frame's body
-pub cut_within : (kind size : ℕ) (x h z : Talk) → Headed kind size x h → Ended size h z → (x.left ≡ [] → ⊥) × (frame_at x.left ≡ None) × Emptied x z
-cut_within kind size x h z head e = (head.some, head.frame ∙ rw (lt-ltb (length h.left) size e.few) refl, e.after ∙ ap (λ (t : Talk). record t { left = [] }) head.after)
 
 -- ---- a reply
 

@@ -1,8 +1,8 @@
--- What the program sends for what it is given. A reader begins here; the parts are:
---   Frames      request frames, and how a text is cut into them
+-- What the program sends for what it is given; frames and how they are taken stand in dmn_frames. A reader begins here; the
+-- parts are:
 --   Serving     what may be answered to frames, where want of memory is free; the answer to each frame stands in dmn_desk
 --   Outcome     what a run has read and sent, by its status; Codes has the statuses' numbers, Words the command line
---   Laws        each text is cut once, statuses are exact, each front of a run is served, the bytes tell of Memory
+--   Laws        statuses are exact, each front of a run is served, the bytes tell of Memory
 --   Stamps      when answers are sent: each behind the moment at which its turn began
 --   Room        runs over a line that tells how many bytes more may be sent
 --   Machines    which machine the program stands for, and what it answers

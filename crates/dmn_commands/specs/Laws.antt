@@ -9,13 +9,8 @@ use Rattle.dmn_commands.specs.Serving.{Serves}
 use Rattle.dmn_outside.specs.Line.{Talk}
 use Rattle.dmn_commands.specs.declared.status.Status.{Status}
 use Rattle.dmn_commands.specs.declared.status.Status.TheVariants as statuses
-use Rattle.dmn_commands.specs.Frames.{Frame, Cuts}
+use Rattle.dmn_frames.specs.Frames.{Frame, Cuts}
 use Rattle.dmn_commands.specs.Outcome.{Outcome, most}
-
--- each text is cut into frames, and in one way
-abbrev pub EachTextIsCutOnce : Type 0
-EachTextIsCutOnce = (text : List ℕ) → ((frames : List Frame) × (left : List ℕ) × Cuts text frames left)
-    × ((frames others : List Frame) (left rest : List ℕ) → Cuts text frames left → Cuts text others rest → (frames ≡ others) × (left ≡ rest))
 
 -- how a run ends at the end of its input, by what is left of a frame
 abbrev pub ended_with : List ℕ → Status

@@ -1,5 +1,4 @@
 pub mod Defs
-pub mod Frames
 pub mod Serving
 pub mod Outcome
 pub mod Codes

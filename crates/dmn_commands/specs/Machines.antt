@@ -9,15 +9,16 @@ use Rattle.dmn_desk.specs.declared.answer.Answer.TheVariants.{Short}
 use Rattle.dmn_desk.specs.declared.answer.ShortAnswer.{ShortAnswer}
 use Rattle.dmn_desk.specs.declared.answer.ShortAnswer.TheVariants.{Memory}
 use Rattle.dmn_desk.specs.declared.kind.Kind.{Kind}
-use Rattle.dmn_desk.specs.declared.reading.Reading.{Reading}
-use Rattle.dmn_desk.specs.declared.reading.Reading.TheVariants.{Whole}
+use Rattle.dmn_frames.specs.declared.reading.Reading.{Reading}
+use Rattle.dmn_frames.specs.declared.reading.Reading.TheVariants.{Whole}
 use Rattle.dmn_desk.specs.Ask.{answer_of, answered, asked_by, asked_idle, asked_kind, started_by}
 use Rattle.dmn_desk.specs.Asked.{OrMemory}
-use Rattle.dmn_desk.specs.Kinds.{kept_of, kind_of, takes_no_memory}
+use Rattle.dmn_frames.specs.Reading.{kept_of}
+use Rattle.dmn_desk.specs.Kinds.{kind_of, takes_no_memory}
 use Rattle.dmn_desk.specs.Requests.{request_of}
 use Rattle.dmn_commands.specs.declared.machine.Machine.{Machine}
 use Rattle.dmn_commands.specs.declared.machine.Registry.{Registry}
-use Rattle.dmn_commands.specs.Frames.{Frame}
+use Rattle.dmn_frames.specs.Frames.{Frame}
 use Rattle.dmn_commands.specs.Serving.{MayAnswer}
 
 abbrev pub KeepsFor : Option Registry → Option MachineState → Type 0

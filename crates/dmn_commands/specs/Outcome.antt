@@ -7,7 +7,7 @@ use Rattle.dmn_desk.specs.declared.answer.Answer.{Answer}
 use Rattle.dmn_desk.specs.Texts.{Fits, frame_of}
 use Rattle.dmn_commands.specs.declared.status.Status.{Status}
 use Rattle.dmn_commands.specs.declared.status.Status.TheVariants as statuses
-use Rattle.dmn_commands.specs.Frames.{Frame, Begins, frame_at}
+use Rattle.dmn_frames.specs.Frames.{Frame, Begins, frame_at}
 use Rattle.dmn_commands.specs.Serving.{MayAnswer, Serves}
 
 -- The text begins with these frames, and this is left behind them; from a machine that took nothing on these bytes are

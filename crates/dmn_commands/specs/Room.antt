@@ -1,5 +1,5 @@
 -- Runs over a line that tells how many bytes more may be sent.
-use Rattle.std.specs.Prelude.{◌≡◌, ◌≢◌, ℕ, ◌+◌, ◌<◌, ◌≤◌, List, length, Option, Result, Ok, Err}
+use Rattle.std.specs.Prelude.{◌≡◌, ◌≢◌, ℕ, ◌<◌, ◌≤◌, List, length, Option, Result, Ok, Err}
 use Rattle.dmn_branch.specs.Machine.{MachineState}
 use Rattle.dmn_desk.specs.declared.answer.Answer.{Answer}
 use Rattle.dmn_desk.specs.Texts.{frame_of}
@@ -9,7 +9,8 @@ use Rattle.dmn_commands.specs.declared.feed.Turn.{Turn}
 use Rattle.dmn_commands.specs.declared.machine.Machine.{Machine}
 use Rattle.dmn_commands.specs.declared.status.Status.{Status}
 use Rattle.dmn_commands.specs.declared.status.Status.TheVariants.{LineFault}
-use Rattle.dmn_commands.specs.Frames.{Frame, Cuts}
+use Rattle.dmn_frames.specs.Frames.{Frame, Cuts}
+use Rattle.dmn_frames.specs.Room.{SpendsSent}
 use Rattle.dmn_commands.specs.Laws.{status_of}
 use Rattle.dmn_commands.specs.Outcome.{Answered}
 use Rattle.dmn_commands.specs.Steps.{Turned}
@@ -30,11 +31,6 @@ pub record EndsSurely (status : Status) (old new : LineView) : Type 0 where
   pub callers : new.caller_faults ≡ old.caller_faults
 
 -- ---- a turn
-
--- what was sent is what was taken from the room, and no call failed
-pub record SpendsSent (before now : ℕ) (old new : LineView) : Type 0 where
-  pub room : now + length new.talk.sent ≡ before + length old.talk.sent
-  pub faults : new.faults ≡ old.faults
 
 -- a turn fails where the next frame's answer does not fit the room, and nowhere else
 abbrev pub TurnsSurely : Result Turn Failed → Machine → ℕ → ℕ → LineView → LineView → Type 0

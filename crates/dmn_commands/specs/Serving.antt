@@ -7,7 +7,7 @@ use Rattle.dmn_desk.specs.declared.answer.ShortAnswer.TheVariants.{Memory}
 use Rattle.dmn_desk.specs.Ask.{answer_of}
 use Rattle.dmn_desk.specs.Asked.{OrMemory}
 use Rattle.dmn_desk.specs.Kinds.{kind_of, takes_no_memory}
-use Rattle.dmn_commands.specs.Frames.{Frame}
+use Rattle.dmn_frames.specs.Frames.{Frame}
 
 -- From m the frame may be answered so, with the machine n after it: by the machine's answer, or by Memory, which
 -- changes nothing.

@@ -1,22 +1,10 @@
 -- When answers are sent: one after another, each behind the moment at which its turn began.
-use Rattle.std.specs.Prelude.{◌≡◌, ◌⊎◌, ℕ, ◌<◌, ◌≤◌, List, [], ◌∷◌, ◌++◌, length, take}
+use Rattle.std.specs.Prelude.{◌≡◌, ◌⊎◌, ℕ, ◌<◌, List, [], ◌∷◌, ◌++◌, length, take}
 use Rattle.std.specs.List.{All, flat_map}
 use Rattle.dmn_desk.specs.declared.answer.Answer.{Answer}
 use Rattle.dmn_desk.specs.Texts.{Fits, frame_of}
-use Rattle.dmn_outside.specs.Counts.{Rose}
-use Rattle.dmn_outside.specs.Line.{LineView, Moments}
-
--- A moment of a turn that began at `from` and ended at `to`, and not the first one: reading the frame raises the time before
--- anything is sent.
-pub record IsBehind (from to moment : ℕ) : Type 0 where
-  pub behind : Rose from moment
-  pub until : moment ≤ to
-
--- what was sent in one turn
-pub record StampsBehind (from to : ℕ) (old new : Moments) : Type 0 where
-  pub more : List ℕ
-  pub each : All (IsBehind from to) more
-  pub after : new ≡ record old { sent = old.sent ++ more }
+use Rattle.dmn_frames.specs.Stamps.{IsBehind}
+use Rattle.dmn_outside.specs.Line.{LineView}
 
 -- the moments of the bytes of these answers, turn by turn: a turn begins where the one before ended
 abbrev pub InTurns : ℕ → List Answer → List ℕ → ℕ → Type 0

@@ -8,14 +8,14 @@ ghost use Rattle.dmn_desk.specs.Texts.{IsBounded};
 ghost use Rattle.dmn_commands.specs.Outcome.{Outcome};
 ghost use Rattle.dmn_commands.specs.Room.{NeverFaults, Suffices, TurnsSurely};
 ghost use Rattle.dmn_commands.specs.Steps.{Asks, RepliesGrown, RepliesTo, Turns, reply_bytes};
-ghost use Rattle.dmn_commands.specs.Stamps.{SentInTurns, StampsBehind};
+ghost use Rattle.dmn_commands.specs.Stamps.{SentInTurns};
+ghost use Rattle.dmn_frames.specs.Stamps.{StampsBehind};
 
-use crate::body::{Body, read_body};
-use crate::head::{Head, read_head};
 use crate::machine::Machine;
 use crate::status::Status;
 use dmn_bytes::Bytes;
 use dmn_desk::{Answer, Short, ShortAnswer, answer_text};
+use dmn_frames::{Body, Head, read_body, read_head};
 use dmn_outside::{Failed, Line, send_all};
 use std::alloc::Global;
 

@@ -1,11 +1,6 @@
 //! Laws about the definitions.
 
-ghost use Rattle.dmn_commands.specs.Laws.{AnswersTellOfMemory, EachFrontIsServed, EachTextIsCutOnce, StatusesAreExact};
-
-/// Each text is whole frames and a rest in exactly one way.
-pub fn each_text_is_cut_once()
-    ensures { EachTextIsCutOnce }
-{}
+ghost use Rattle.dmn_commands.specs.Laws.{AnswersTellOfMemory, EachFrontIsServed, StatusesAreExact};
 
 /// Done, CutInput and Enough come each exactly where the text says so.
 pub fn statuses_are_exact()

@@ -4,7 +4,7 @@ ghost use Rattle.std.specs.Prelude.{◌≡◌, ◌≢◌, List, ℕ, true, false
 ghost use Rattle.std.specs.String.{string_bytes};
 ghost use Rattle.dmn_outside.specs.Counts.{Rose};
 ghost use Rattle.dmn_outside.specs.Later.{IsLater};
-ghost use Rattle.dmn_commands.specs.Frames.{Cuts, Frame};
+ghost use Rattle.dmn_frames.specs.Frames.{Cuts, Frame};
 ghost use Rattle.dmn_commands.specs.Laws.{EndsExactly, status_of};
 ghost use Rattle.dmn_commands.specs.Outcome.{Outcome};
 ghost use Rattle.dmn_commands.specs.Room.{EndsSurely, Suffices};

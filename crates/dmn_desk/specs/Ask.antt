@@ -34,7 +34,8 @@ use Rattle.dmn_desk.specs.declared.answer.GrownAnswer.TheVariants as grown
 use Rattle.dmn_desk.specs.declared.answer.ShortAnswer.{ShortAnswer}
 use Rattle.dmn_desk.specs.declared.answer.ShortAnswer.TheVariants as short
 use Rattle.dmn_desk.specs.declared.kind.Kind.{Kind}
-use Rattle.dmn_desk.specs.declared.limits.TheConstants.{HEAD, LONGEST_BODY, START}
+use Rattle.dmn_desk.specs.declared.limits.TheConstants.{START}
+use Rattle.dmn_frames.specs.declared.limits.TheConstants.{HEAD, LONGEST_BODY}
 use Rattle.dmn_desk.specs.declared.request.Request.{Request}
 use Rattle.dmn_desk.specs.declared.request.Request.TheVariants as requests
 use Rattle.dmn_desk.specs.Kinds.{kind_of}

@@ -16,20 +16,18 @@ mod page;
 mod payees;
 mod pins;
 mod quorums;
-mod reading;
 mod request;
 mod row;
 mod rule_fields;
-mod short;
 mod start;
 mod text;
+
+pub use dmn_frames::{FRONT, HEAD, LONGEST_BODY, Reading, Short};
 
 pub use answer::{Answer, GrownAnswer, ShortAnswer};
 pub use desk::Desk;
 pub use kind::Kind;
-pub use limits::{FRONT, HEAD, LONGEST_BODY, START};
-pub use reading::Reading;
+pub use limits::START;
 pub use request::{Request, RequestFault, read_request};
-pub use short::Short;
 pub use start::begin;
 pub use text::{answer_text, short_text};

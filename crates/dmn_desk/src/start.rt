@@ -4,8 +4,8 @@ ghost use Rattle.std.specs.Prelude.{◌≤◌, length, IfErr, IfOk};
 ghost use Rattle.dmn_desk.specs.Asked.{Begins, BeginsNot};
 
 use crate::answer::ShortAnswer;
-use crate::limits::{HEAD, LONGEST_BODY};
 use dmn_branch::Branch;
+use dmn_frames::{HEAD, LONGEST_BODY};
 use dmn_rows::{StartFault, read_start};
 use std::alloc::Global;
 

@@ -13,8 +13,8 @@ use crate::list::feed_list;
 use crate::page::feed_page;
 use crate::quorums::feed_quorums;
 use crate::row::put_row;
-use crate::short::Short;
 use dmn_bytes::{Bytes, Draft, Memory};
+use dmn_frames::Short;
 
 impl ShortAnswer {
     /// The number of its status.

@@ -1,7 +1,8 @@
 use Rattle.std.proofs.Common.{inl, inr, arith}
 use Rattle.dmn_outside.proofs.Passing.{later_same, later_then}
 use Rattle.dmn_commands.proofs.Feeding.{fed_none, fed_more, fed_fault, fed_part}
-use Rattle.dmn_commands.proofs.Spending.{never_lacks, spent_nothing, spent_then}
+use Rattle.dmn_frames.proofs.Spending.{spent_nothing, spent_then}
+use Rattle.dmn_commands.proofs.Spending.{never_lacks}
 use Rattle.dmn_commands.proofs.Stamping.{no_turns, turns_all, turns_ended, turns_fault, turns_more, turns_part}
 use Rattle.dmn_commands.proofs.feed.feed.Goals as goal
 

@@ -1,7 +1,7 @@
 use Rattle.std.proofs.Common.{◌≡◌, ◌<◌, true}
 use Rattle.dmn_outside.specs.Counts.{Rose}
 use Rattle.dmn_outside.specs.Later.{IsLater}
-use Rattle.dmn_commands.specs.Room.{SpendsSent}
+use Rattle.dmn_frames.specs.Room.{SpendsSent}
 use Rattle.dmn_commands.proofs.Feeding.{FedSoFar}
 use Rattle.dmn_commands.proofs.Stamping.{FedInTurns}
 use Rattle.dmn_commands.proofs.feed.feed.Given as goal

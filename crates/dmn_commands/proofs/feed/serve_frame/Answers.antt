@@ -2,9 +2,11 @@ use Rattle.std.proofs.Common.{inl, inr, ap, arith}
 use Rattle.std.proofs.lemmas.Result.{err_from_is_err_and}
 use Rattle.dmn_outside.specs.Line.{Talk}
 use Rattle.dmn_outside.proofs.Passing.{later_quiet, later_then, quiet_then, room_kept}
-use Rattle.dmn_commands.proofs.Spending.{lacked, spent_none, spent_whole}
-use Rattle.dmn_commands.proofs.Stamping.{behind_none, stamps_behind}
-use Rattle.dmn_commands.proofs.Turning.{cut_within, faulted_within, replied, taken, turned_part, turned_whole}
+use Rattle.dmn_frames.proofs.Spending.{spent_none, spent_whole}
+use Rattle.dmn_frames.proofs.Stamping.{behind_none, stamps_behind}
+use Rattle.dmn_frames.proofs.Turns.{cut_within, faulted_within}
+use Rattle.dmn_commands.proofs.Spending.{lacked}
+use Rattle.dmn_commands.proofs.Turning.{replied, taken, turned_part, turned_whole}
 use Rattle.dmn_commands.proofs.feed.serve_frame.Goals as goal
 
 pub returns-in_err-ask-in-Of-clause-turns : goal.returns-in_err-ask-in-Of-clause-turns

@@ -1,7 +1,7 @@
 use Rattle.std.proofs.Common.{arith}
 use Rattle.std.proofs.lemmas.Result.{err_from_is_err_and}
-use Rattle.dmn_commands.proofs.Heading.{headed, cut_short, none_left, faulted}
-use Rattle.dmn_commands.proofs.head.read_head.Goals as goal
+use Rattle.dmn_frames.proofs.Heading.{headed, cut_short, none_left, faulted}
+use Rattle.dmn_frames.proofs.head.read_head.Goals as goal
 
 pub returns-in_err-n-clause-heads : goal.returns-in_err-n-clause-heads
 returns-in_err-n-clause-heads g c = λ tells.

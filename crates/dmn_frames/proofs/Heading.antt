@@ -5,8 +5,8 @@ use Rattle.std.proofs.lemmas.Bool.{cases_lt}
 use Rattle.std.proofs.lemmas.List.{length-drop, length-take, drop-drop, take_all, take-take, take-append-le}
 use Rattle.dmn_outside.specs.Line.{Talk}
 use Rattle.dmn_outside.specs.Pieces.{Took, Ended, Filled, Broke}
-use Rattle.dmn_commands.specs.Frames.{frame_at}
-use Rattle.dmn_commands.specs.Steps.{Emptied, Faulted, Headed}
+use Rattle.dmn_frames.specs.Frames.{frame_at}
+use Rattle.dmn_frames.specs.Steps.{Emptied, Faulted, Headed}
 
 pub record Five (text : List ℕ) : Type 0 where
   pub kind : ℕ

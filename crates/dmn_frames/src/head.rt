@@ -4,7 +4,7 @@ ghost use Rattle.std.specs.Prelude.{◌≡◌, true};
 ghost use Rattle.dmn_outside.specs.Counts.{HasCause, Rose};
 ghost use Rattle.dmn_outside.specs.Failing.{KeepsSurely};
 ghost use Rattle.dmn_outside.specs.Later.{IsQuiet};
-ghost use Rattle.dmn_commands.specs.Steps.{Heads};
+ghost use Rattle.dmn_frames.specs.Steps.{Heads};
 
 use dmn_outside::{Failed, Line, fill};
 
@@ -27,6 +27,7 @@ pub fn read_head<L: Line>(line: &mut L) -> Result<Head, Failed>
     ensures heads { L.tells ≡ true → Heads result (L.line line.old).talk (L.line line.new).talk }
     ensures quiet { IsQuiet L.tells_moments (L.time line.old) (L.time line.new) (L.line line.old) (L.line line.new) }
     ensures time { Rose (L.time line.old) (L.time line.new) }
+    ensures disk { L.disk line.new ≡ L.disk line.old }
     ensures sure { L.tells_room ≡ true → KeepsSurely result (L.room line.old) (L.room line.new) (L.line line.old) (L.line line.new) }
     ensures cause { HasCause (L.line line.old).faults (L.line line.new).faults result }
 {

@@ -1,7 +1,7 @@
 use Rattle.std.proofs.Common.{◌≡◌, ◌-◌, ℕ, List, min, length, take, replicate, refl, arith}
 use Rattle.std.proofs.lemmas.List.{length-take}
-use Rattle.dmn_commands.proofs.Heading.{took_then, short_front, front_is}
-use Rattle.dmn_commands.proofs.body.read_front.Goals as goal
+use Rattle.dmn_frames.proofs.Heading.{took_then, short_front, front_is}
+use Rattle.dmn_frames.proofs.body.read_front.Goals as goal
 
 abbrev zeros : List ℕ
 zeros = replicate 64 0

@@ -4,10 +4,12 @@ ghost use Rattle.std.specs.Prelude.{◌≡◌, ◌≤◌, true, length, IfOk, If
 ghost use Rattle.dmn_outside.specs.Counts.{HasCause};
 ghost use Rattle.dmn_outside.specs.Failing.{KeepsSurely};
 ghost use Rattle.dmn_outside.specs.Later.{IsQuiet};
-ghost use Rattle.dmn_commands.specs.Steps.{BodyOf, Fronts, IsWithin, kept_bytes};
+ghost use Rattle.dmn_frames.specs.Steps.{BodyOf, Fronts, IsWithin, kept_bytes};
 
+use crate::limits::FRONT;
+use crate::reading::Reading;
+use crate::short::Short;
 use dmn_bytes::Bytes;
-use dmn_desk::{FRONT, Reading, Short};
 use dmn_outside::{Failed, Gathered, Line, fill, gather, skip};
 use std::alloc::Global;
 
@@ -48,6 +50,7 @@ fn read_front<L: Line>(line: &mut L, size: usize) -> Result<Option<Short>, Faile
     ensures fronts { L.tells ≡ true → Fronts size result (L.line line.old).talk (L.line line.new).talk }
     ensures fits { IfOk result (λ front. IfSome front (λ bytes. length bytes ≤ size)) }
     ensures quiet { IsQuiet L.tells_moments (L.time line.old) (L.time line.new) (L.line line.old) (L.line line.new) }
+    ensures disk { L.disk line.new ≡ L.disk line.old }
     ensures sure { L.tells_room ≡ true → KeepsSurely result (L.room line.old) (L.room line.new) (L.line line.old) (L.line line.new) }
     ensures cause { HasCause (L.line line.old).faults (L.line line.new).faults result }
 {
@@ -71,6 +74,7 @@ fn read_whole<L: Line>(alloc: Global, line: &mut L, size: usize) -> Result<Body,
     ensures bodies { L.tells ≡ true → BodyOf Reading.Whole size result (L.line line.old).talk (L.line line.new).talk }
     ensures fits { IfOk result (IsWithin size) }
     ensures quiet { IsQuiet L.tells_moments (L.time line.old) (L.time line.new) (L.line line.old) (L.line line.new) }
+    ensures disk { L.disk line.new ≡ L.disk line.old }
     ensures sure { L.tells_room ≡ true → KeepsSurely result (L.room line.old) (L.room line.new) (L.line line.old) (L.line line.new) }
     ensures cause { HasCause (L.line line.old).faults (L.line line.new).faults result }
 {
@@ -93,6 +97,7 @@ pub fn read_body<L: Line>(
     ensures lacking { IfOk result (λ body. body ≡ Body.Lacking → reading ≡ Reading.Whole) }
     ensures fits { IfOk result (IsWithin size) }
     ensures quiet { IsQuiet L.tells_moments (L.time line.old) (L.time line.new) (L.line line.old) (L.line line.new) }
+    ensures disk { L.disk line.new ≡ L.disk line.old }
     ensures sure { L.tells_room ≡ true → KeepsSurely result (L.room line.old) (L.room line.new) (L.line line.old) (L.line line.new) }
     ensures cause { HasCause (L.line line.old).faults (L.line line.new).faults result }
 {

@@ -1,6 +1,6 @@
 -- An input that is read one piece after another.
 use Rattle.std.proofs.Common.{◌≡◌, ℕ, ◌+◌, ◌≤◌, ◌<◌, List, [], ◌++◌, length, take, drop, refl, sym, ap, ◌∙◌, arith}
-use Rattle.std.specs.Prelude.{Ok, Err}
+use Rattle.std.specs.Prelude.{Ok}
 use Rattle.std.proofs.lemmas.List.{drop-drop, drop_all, length-append, length-drop, length-take, take-append-le, take_all}
 use Rattle.std.proofs.Math.Seq.{take-add}
 use Rattle.dmn_outside.specs.Line.{Blames, Gives, Talk}
@@ -44,8 +44,7 @@ read_all n text out x y z zero within room r g =
     let none : y.left ≡ [] = g.ended zero room in
     let few : length x.left ≤ length text = omega (arith, ap length left, ap length none, length-drop (length text) x.left) in
     let fewer : length x.left ≤ MOST_READ = omega (arith, few, within) in
-    let rest : z.left ≡ drop MOST_READ x.left = ap (λ (s : Talk). s.left) g.after ∙ ap (λ (k : ℕ). drop k y.left) zero ∙ none ∙ sym (drop_all MOST_READ x.left fewer) in
-    (
+    let rest : z.left ≡ drop MOST_READ x.left = ap (λ (s : Talk). s.left) g.after ∙ ap (λ (k : ℕ). drop k y.left) zero ∙ none ∙ sym (drop_all MOST_READ x.left fewer) in (
       r.same ∙ take_all (length text) x.left few ∙ sym (take_all MOST_READ x.left fewer),
       g.after ∙ ap (λ (s : Talk). record s { left = drop n y.left }) r.took.after ∙ ap (λ (l : List ℕ). record x { left = l }) (sym (ap (λ (s : Talk). s.left) g.after) ∙ rest),
     )

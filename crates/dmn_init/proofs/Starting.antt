@@ -1,20 +1,19 @@
 -- A blank disk on which a registry is made.
-use Rattle.std.proofs.Common.{◌≡◌, ◌≢◌, ◌⊎◌, inl, inr, ⊎_elim, ℕ, ◌≤◌, ◌<◌, ◌+◌, Bool, true, false, List, [], ◌∷◌, ◌++◌, length, take, drop, refl, sym, ap, subst, ◌∙◌, arith}
-use Rattle.std.specs.Prelude.{Ok, Err}
+use Rattle.std.proofs.Common.{◌≡◌, inl, inr, ⊎_elim, ℕ, ◌≤◌, Bool, true, List, [], ◌∷◌, length, take, drop, refl, sym, ap, subst, ◌∙◌, arith}
 use Rattle.std.proofs.lemmas.List.{drop_all, length-take, take_all}
 use Rattle.dmn_bytes.specs.Defs.{Departs}
 use Rattle.dmn_outside.specs.Changes.{OnlyReads, unread}
-use Rattle.dmn_outside.specs.Crashes.{LeavesOnly, Rests}
-use Rattle.dmn_outside.specs.Disk.{AreOver, DiskView, File, IfReads, Leaves, Three, Told, contents, has_contents, nothing, whole}
+use Rattle.dmn_outside.specs.Crashes.{LeavesOnly}
+use Rattle.dmn_outside.specs.Disk.{AreOver, DiskView, File, IfReads, Leaves, Three, Told, contents, nothing, whole}
 use Rattle.dmn_outside.specs.Line.{Talk}
-use Rattle.dmn_outside.proofs.Crash.{files_or, joins, reads_on, started, widened}
+use Rattle.dmn_outside.proofs.Crash.{files_or, joins, reads_on, started}
 use Rattle.dmn_journal.specs.Create.{HoldsText, IsBlank, IsBlankDisk, behind_gate}
 use Rattle.dmn_journal.specs.Create as journals
 use Rattle.dmn_journal.proofs.Creating.{blank_image}
 use Rattle.dmn_journal.proofs.Texts.{journals_have_commands, made_is_a_journal}
 use Rattle.dmn_journal.specs.Journal.{HasCommands, header_text}
 use Rattle.dmn_rows.specs.Defs.{IsStartText, start_text}
-use Rattle.dmn_rows.specs.Start.{start_record, start_record_sound}
+use Rattle.dmn_rows.specs.Start.{start_record}
 use Rattle.dmn_rows.specs.declared.start.StartRecord.{StartRecord}
 use Rattle.dmn_status.specs.declared.status.Status.{Status}
 use Rattle.dmn_status.specs.declared.status.Status.TheVariants as statuses
@@ -22,7 +21,7 @@ use Rattle.dmn_init.specs.declared.input.TheConstants.{MOST_READ}
 use Rattle.dmn_registry.specs.Machine.{begun}
 use Rattle.dmn_registry.specs.Own.{IsOwn}
 use Rattle.dmn_registry.proofs.Lengths.{start_long}
-use Rattle.dmn_init.specs.Init.{EndsWell, Inits, IsBlankOrMade, IsMade, IsNoStart, Makes, OfMaking}
+use Rattle.dmn_init.specs.Init.{EndsWell, Inits, IsBlankOrMade, IsMade, Makes, OfMaking}
 
 -- ---- a header that is made
 

@@ -5,7 +5,7 @@ use Rattle.dmn_outside.specs.Crashes.{Rests}
 use Rattle.dmn_outside.specs.Disk.{DiskView, IfReads, Three, Told}
 use Rattle.dmn_outside.specs.Failing.{KeepsDisk}
 use Rattle.dmn_outside.specs.Line.{LineView, Talk}
-use Rattle.dmn_outside.specs.Pieces.{Broke, Took}
+use Rattle.dmn_outside.specs.Pieces.{Broke}
 use Rattle.dmn_journal.specs.Create.{IsBlank}
 use Rattle.dmn_registry.specs.Machine.{begun}
 use Rattle.dmn_registry.specs.Own.{IsOwn}

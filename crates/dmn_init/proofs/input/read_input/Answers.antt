@@ -1,4 +1,4 @@
-use Rattle.std.proofs.Common.{◌≡◌, ◌≤◌, ◌<◌, ◌++◌, length, take, drop, List, ℕ, ◌+◌, refl, arith, sym, ◌∙◌, ap}
+use Rattle.std.proofs.Common.{◌≡◌, ◌≤◌, ◌<◌, ◌++◌, length, take, drop, List, ℕ, ◌+◌, arith, ◌∙◌, ap}
 use Rattle.std.proofs.lemmas.List.{length-append, length-drop, length-take, take-append-le}
 use Rattle.dmn_outside.proofs.Passing.{room_kept}
 use Rattle.dmn_init.proofs.Reading.{read_all, read_more, read_most}

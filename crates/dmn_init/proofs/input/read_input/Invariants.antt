@@ -1,4 +1,4 @@
-use Rattle.std.proofs.Common.{◌-◌, ◌≡◌, ◌<◌, ◌≤◌, true}
+use Rattle.std.proofs.Common.{◌-◌, ◌≡◌, ◌≤◌, true}
 use Rattle.std.specs.Prelude.{length}
 use Rattle.dmn_outside.specs.Failing.{KeepsRoom}
 use Rattle.dmn_init.specs.declared.input.TheConstants.{MOST_READ}

@@ -1,4 +1,4 @@
-use Rattle.std.proofs.Common.{◌≡◌, ◌≤◌, ℕ, List, length, take, drop, ◌+◌, subst, sym, ap, arith, refl, ◌∙◌}
+use Rattle.std.proofs.Common.{◌≡◌, ◌≤◌, length, take, drop, subst, sym, ap, arith, ◌∙◌}
 use Rattle.std.proofs.lemmas.List.{length-take}
 use Rattle.dmn_outside.specs.Changes.{OnlyReads}
 use Rattle.dmn_outside.specs.Disk.{DiskView}
@@ -24,7 +24,7 @@ returns-in-Ok-clause-outcome g c = λ tells.
     let i = c.in-Ok.ensures.input tells in
     let is : c.as_slice.result.now ≡ take MOST_READ (g.T.Device.line c.args.station.now).talk.left = c.as_slice.ensures ∙ i.0 ∙ ap (λ (v : LineView). take MOST_READ v.talk.left) c.is_blank.ensures.line in
     let read : (g.T.Device.line c.make.new.disk).talk ≡ record (g.T.Device.line c.args.station.now).talk { left = drop MOST_READ (g.T.Device.line c.args.station.now).talk.left } =
-        ap (λ (v : LineView). v.talk) c.make.ensures.line ∙ i.1 ∙ ap (λ (v : LineView). record v.talk { left = drop MOST_READ v.talk.left }) c.is_blank.ensures.line in
+    ap (λ (v : LineView). v.talk) c.make.ensures.line ∙ i.1 ∙ ap (λ (v : LineView). record v.talk { left = drop MOST_READ v.talk.left }) c.is_blank.ensures.line in
     init_made c.make.result _ _ c.as_slice.result.now _ _ c.make.ensures.status c.make.ensures.makes (rw c.in-Ok-true.field-0-test at c.in-Ok-true.ensures.blank) is read
 
 pub returns-in-Ok-clause-moments : goal.returns-in-Ok-clause-moments

@@ -1,4 +1,3 @@
-use Rattle.std.proofs.Common.{sym}
 use Rattle.dmn_outside.proofs.Crash.{widened}
 use Rattle.dmn_init.proofs.Starting.{blank_moments, made_image, made_rests}
 use Rattle.dmn_init.proofs.making.make.Goals as goal

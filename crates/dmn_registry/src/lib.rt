@@ -6,6 +6,7 @@ mod commands;
 mod fault;
 mod laws;
 mod opening;
+mod pins;
 mod registry;
 mod replaying;
 

@@ -1,0 +1,4 @@
+pub mod Texts
+pub mod Rest
+pub mod Sized
+pub mod Whole

@@ -1,0 +1,7 @@
+-- What the head of an HTTP request asks for. A reader begins here; the parts are:
+--   Head     where a head ends in a caller's bytes, and which is too long
+--   Fields   the fields of a head by their names, and what a Content-Length says
+--   Routes   the twelve paths, part by part, and what each asks for
+--   Values   the numbers and hashes in a path, as they are printed
+--   Wants    what a head asks for: the first check that fails, in their order, or the request, or the length of a body
+--   Router   the routes as the kit's router keeps them; Steps has what the private parts give

@@ -1,0 +1,6 @@
+pub mod Bytes
+pub mod Fits
+pub mod Keeping
+pub mod Told
+pub mod History
+pub mod Sound

@@ -1,0 +1,3 @@
+pub mod Defs
+pub mod Branches
+pub mod Sound

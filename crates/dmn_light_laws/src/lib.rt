@@ -1,0 +1,6 @@
+//! What a light client can rely on, by replay of the blocks.
+#![tactic(auto)]
+
+mod law;
+
+pub use law::{client_has_replayed_list, clients_keep_lists};

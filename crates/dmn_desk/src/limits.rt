@@ -8,6 +8,3 @@ pub const LONGEST_BODY: u32 = 16_777_216;
 
 /// As many bytes of a body as are read to answer a question, whose body is shorter.
 pub const FRONT: usize = 64;
-
-/// The kind of the frame that hands in a start record.
-pub const START: u8 = 32;

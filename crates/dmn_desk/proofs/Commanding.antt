@@ -1,5 +1,5 @@
 -- What is answered to commands and pins, and that the desk stays true behind them.
-use Rattle.std.proofs.Common.{◌≡◌, ℕ, true, false, List, [], refl, sym, ap, subst, inl, inr}
+use Rattle.std.proofs.Common.{◌≡◌, ℕ, true, false, List, [], refl, sym, subst, inl, inr}
 use Rattle.std.specs.Prelude.{Result, Ok, Err, None, Some, Option, is_some}
 use Rattle.dmn_block.specs.Defs.{HasItsIds, IsBlockText}
 use Rattle.dmn_block.specs.declared.frame.BlockFrame.{BlockFrame}

@@ -1,6 +1,6 @@
 -- What a desk keeps, through the calls of its cache and behind a block.
-use Rattle.std.proofs.Common.{◌≡◌, ◌⊎◌, ℕ, zero, suc, ◌-◌, true, false, Bool, List, [], ◌∷◌, ◌++◌, Option, Some, None, Ok, Err, Result, IfOk, OnOk, OnErr, IfSome, refl, sym, ap, ◌∙◌, subst, inl, inr}
-use Rattle.std.specs.Prelude.{Contains, ◌&&◌, ◌==◌, is_some, slice_get}
+use Rattle.std.proofs.Common.{◌≡◌, ◌⊎◌, ℕ, zero, suc, ◌-◌, true, Bool, List, [], ◌∷◌, ◌++◌, Option, Some, None, Ok, Err, Result, IfOk, OnOk, OnErr, IfSome, refl, sym, ap, ◌∙◌, subst, inl, inr}
+use Rattle.std.specs.Prelude.{Contains, ◌==◌, is_some, slice_get}
 use Rattle.std.specs.Option.{option_eq}
 use Rattle.std.proofs.lemmas.Bool.{and_parts, eqb-true}
 use Rattle.std.specs.Map.{lookup}

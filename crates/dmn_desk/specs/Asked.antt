@@ -10,7 +10,7 @@ use Rattle.dmn_registry.specs.declared.registry.Registry.{Registry}
 use Rattle.dmn_registry.specs.Machine.{Machine, connecting, disconnecting, state_of}
 use Rattle.dmn_registry.specs.Own.{IsOwn, OwnWith, StandsOn}
 use Rattle.dmn_desk.specs.declared.answer.Answer.{Answer}
-use Rattle.dmn_desk.specs.declared.answer.Answer.TheVariants.{Short, Grown}
+use Rattle.dmn_desk.specs.declared.answer.Answer.TheVariants.{Short}
 use Rattle.dmn_desk.specs.declared.answer.ShortAnswer.TheVariants as short
 use Rattle.dmn_desk.specs.declared.desk.Desk.{Desk}
 use Rattle.dmn_desk.specs.declared.request.Request.{Request}

@@ -1,4 +1,4 @@
-use Rattle.std.proofs.Common.{Some, subst}
+use Rattle.std.proofs.Common.{subst}
 use Rattle.std.specs.Option.{option_map}
 use Rattle.dmn_branch.specs.Asked.{IsToldOf, lent_part}
 use Rattle.dmn_branch.specs.Coinbases.{coinbase_of}

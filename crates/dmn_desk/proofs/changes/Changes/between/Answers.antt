@@ -1,8 +1,4 @@
-use Rattle.std.proofs.Common.{sym, subst}
-use Rattle.std.specs.Prelude.{List}
-use Rattle.dmn_diff.specs.declared.change.ListChange.{ListChange}
-use Rattle.dmn_desk.specs.declared.changes.Heights.{Heights}
-use Rattle.dmn_desk.specs.Kept.{AreChanges}
+use Rattle.std.proofs.Common.{sym}
 use Rattle.dmn_desk.proofs.Keeping.{copied_change, heights_eq, kept_promoted}
 use Rattle.dmn_desk.proofs.changes.Changes.between.Goals as goal
 

@@ -1,4 +1,4 @@
-use Rattle.std.proofs.Common.{◌∙◌, subst, sym}
+use Rattle.std.proofs.Common.{subst, sym}
 use Rattle.dmn_diff.specs.declared.change.ListChange.{ListChange}
 use Rattle.dmn_desk.specs.Kept.{IsChange}
 use Rattle.dmn_desk.proofs.Keeping.{kept_put}

@@ -9,4 +9,5 @@ pub mod Once
 pub mod Resting
 mod Taking
 mod Pinning
+mod Told
 pub mod Between

@@ -1,6 +1,7 @@
 //! A registry: a branch whose commands are durable before they are answered.
 #![tactic(auto)]
 
+mod auditing;
 mod command;
 mod commands;
 mod fault;
@@ -10,6 +11,7 @@ mod pins;
 mod registry;
 mod replaying;
 
+pub use auditing::{Audit, AuditFault};
 pub use fault::{ConnectFault, DisconnectFault};
 pub use laws::{at_rest_is_own, journals_depart_nowhere, one_machine};
 pub use registry::{OpenFault, Registry};

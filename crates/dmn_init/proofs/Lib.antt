@@ -1,2 +1,3 @@
+mod Lengths
 mod Reading
 pub mod Starting

@@ -20,7 +20,7 @@ use Rattle.dmn_status.specs.declared.status.Status.TheVariants as statuses
 use Rattle.dmn_init.specs.declared.input.TheConstants.{MOST_READ}
 use Rattle.dmn_registry.specs.Machine.{begun}
 use Rattle.dmn_registry.specs.Own.{IsOwn}
-use Rattle.dmn_registry.proofs.Lengths.{start_long}
+use Rattle.dmn_init.proofs.Lengths.{start_long}
 use Rattle.dmn_init.specs.Init.{EndsWell, Inits, IsBlankOrMade, IsMade, Makes, OfMaking}
 
 -- ---- a header that is made

@@ -1,4 +1,4 @@
-pub mod Lengths
+mod Lengths
 pub mod Blocks
 pub mod Verdicts
 pub mod Apart

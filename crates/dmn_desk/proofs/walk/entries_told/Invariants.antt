@@ -3,7 +3,7 @@ use Rattle.dmn_branch.specs.Asked.{rows_at}
 use Rattle.dmn_branch.specs.Machine.{MachineState}
 use Rattle.dmn_branch.specs.Stands.{StandsFor}
 use Rattle.dmn_desk.specs.Ask.{entries_told}
-use Rattle.dmn_desk.proofs.diff.entries_told.Given as goal
+use Rattle.dmn_desk.proofs.walk.entries_told.Given as goal
 
 -- what is made, with what is still to come
 abbrev pub invariant-loop-row : goal.invariant-loop-row

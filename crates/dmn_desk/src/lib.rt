@@ -1,15 +1,16 @@
-//! Requests, and what is answered to them by what a branch holds.
+//! Requests, and what is answered to them by what a registry holds.
 #![tactic(auto)]
 
 mod answer;
 mod body;
+mod changes;
+mod commands;
 mod desk;
 mod diff;
 mod hashes;
 mod height;
 mod kind;
 mod length;
-mod limits;
 mod list;
 mod members;
 mod page;
@@ -19,15 +20,13 @@ mod quorums;
 mod request;
 mod row;
 mod rule_fields;
-mod start;
 mod text;
+mod walk;
 
 pub use dmn_frames::{FRONT, HEAD, LONGEST_BODY, Reading, Short};
 
 pub use answer::{Answer, GrownAnswer, ShortAnswer};
 pub use desk::Desk;
 pub use kind::Kind;
-pub use limits::START;
 pub use request::{Request, RequestFault, read_request};
-pub use start::begin;
 pub use text::{answer_text, short_text};

@@ -5,27 +5,27 @@ use Rattle.dmn_client.specs.Step.{ClientState, new_client}
 use Rattle.dmn_frames.specs.Frames.{Frame, Cuts}
 use Rattle.dmn_outside.specs.Line.{Talk}
 use Rattle.dmn_light.specs.declared.answer.Answer.{Answer}
-use Rattle.dmn_light.specs.declared.ended.Ended.{Ended}
-use Rattle.dmn_light.specs.declared.ended.Ended.TheVariants as endings
+use Rattle.dmn_status.specs.declared.status.Status.{Status}
+use Rattle.dmn_status.specs.declared.status.Status.TheVariants as statuses
 use Rattle.dmn_light.specs.Answers.{Fits, body_of, frame_of, lack, status_of}
 use Rattle.dmn_light.specs.Outcome.{Outcome, most}
 use Rattle.dmn_light.specs.Serving.{Serves, client_bytes}
 
 -- how a run ends at the end of its input, by what is left of a frame
-abbrev pub ended_with : List ℕ → Ended
-ended_with [] = endings.Done
-ended_with (byte ∷ left) = endings.CutInput
+abbrev pub ended_with : List ℕ → Status
+ended_with [] = statuses.Done
+ended_with (byte ∷ left) = statuses.CutInput
 
 -- how a run ends that answers all frames of a text, by these frames and what is left of the text
-abbrev pub ending_of : List Frame → List ℕ → Ended
-ending_of frames left = if nat_lt (length frames) most then ended_with left else endings.Enough
+abbrev pub ending_of : List Frame → List ℕ → Status
+ending_of frames left = if nat_lt (length frames) most then ended_with left else statuses.Enough
 
 -- an ending other than a fault is the text's own
-abbrev pub EndsExactly : Ended → List Frame → List ℕ → Type 0
-EndsExactly ended frames left = ended ≢ endings.LineFault → ended ≡ ending_of frames left
+abbrev pub EndsExactly : Status → List Frame → List ℕ → Type 0
+EndsExactly status frames left = status ≢ statuses.LineFault → status ≡ ending_of frames left
 
 abbrev pub EndingsAreExact : Type 0
-EndingsAreExact = (ended : Ended) (old new : Talk) (frames : List Frame) (left : List ℕ) → Outcome ended old new → Cuts old.left frames left → EndsExactly ended frames left
+EndingsAreExact = (status : Status) (old new : Talk) (frames : List Frame) (left : List ℕ) → Outcome status old new → Cuts old.left frames left → EndsExactly status frames left
 
 -- what is served to frames is served to each front of them, with a client between
 abbrev pub EachFrontIsServed : Type 0

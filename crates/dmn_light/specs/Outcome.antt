@@ -5,8 +5,8 @@ use Rattle.dmn_client.specs.Step.{ClientState, new_client}
 use Rattle.dmn_frames.specs.Frames.{Frame, Begins, frame_at}
 use Rattle.dmn_outside.specs.Line.{Talk}
 use Rattle.dmn_light.specs.declared.answer.Answer.{Answer}
-use Rattle.dmn_light.specs.declared.ended.Ended.{Ended}
-use Rattle.dmn_light.specs.declared.ended.Ended.TheVariants as endings
+use Rattle.dmn_status.specs.declared.status.Status.{Status}
+use Rattle.dmn_status.specs.declared.status.Status.TheVariants as statuses
 use Rattle.dmn_light.specs.Answers.{Fits, frame_of}
 use Rattle.dmn_light.specs.Serving.{MayAnswer, Serves}
 
@@ -62,12 +62,22 @@ pub record BrokeOff (old new : Talk) : Type 0 where
 
 -- ---- by the ending
 
-abbrev pub Outcome : Ended → Talk → Talk → Type 0
+abbrev pub Outcome : Status → Talk → Talk → Type 0
 -- each byte belongs to a frame, and each frame was answered
-Outcome endings.Done old new = (frames : List Frame) × (bytes : List ℕ) × (holds : ClientState) × Answered old.left frames [] bytes holds × (length frames < most) × Sent [] bytes old new
+Outcome statuses.Done old new = (frames : List Frame) × (bytes : List ℕ) × (holds : ClientState) × Answered old.left frames [] bytes holds × (length frames < most) × Sent [] bytes old new
 -- the same, and a part of a frame was left
-Outcome endings.CutInput old new = (frames : List Frame) × (left bytes : List ℕ) × (holds : ClientState) × Answered old.left frames left bytes holds × (length frames < most) × (left ≢ []) × (frame_at left ≡ None) × Sent [] bytes old new
+Outcome statuses.CutInput old new = (frames : List Frame) × (left bytes : List ℕ) × (holds : ClientState) × Answered old.left frames left bytes holds × (length frames < most) × (left ≢ []) × (frame_at left ≡ None) × Sent [] bytes old new
 -- the most frames were answered
-Outcome endings.Enough old new = (frames : List Frame) × (left bytes : List ℕ) × (holds : ClientState) × Answered old.left frames left bytes holds × (length frames ≡ most) × Sent left bytes old new
+Outcome statuses.Enough old new = (frames : List Frame) × (left bytes : List ℕ) × (holds : ClientState) × Answered old.left frames left bytes holds × (length frames ≡ most) × Sent left bytes old new
 -- a front of the answers was sent
-Outcome endings.LineFault old new = BrokeOff old new
+Outcome statuses.LineFault old new = BrokeOff old new
+-- it ends in no other way
+Outcome status old new = ⊥
+
+-- how a run may end
+abbrev pub IsEnding : Status → Type 0
+IsEnding statuses.Done = Unit {0}
+IsEnding statuses.CutInput = Unit {0}
+IsEnding statuses.Enough = Unit {0}
+IsEnding statuses.LineFault = Unit {0}
+IsEnding status = ⊥

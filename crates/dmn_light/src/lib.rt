@@ -2,7 +2,6 @@
 #![tactic(auto)]
 
 mod answer;
-mod ended;
 mod header;
 mod kind;
 mod laws;
@@ -10,7 +9,6 @@ mod machine;
 mod run;
 
 pub use answer::Answer;
-pub use ended::Ended;
 pub use kind::Kind;
 pub use laws::{
     answers_tell_of_memory, bytes_without_memory, each_front_is_served, endings_are_exact,

@@ -7,16 +7,16 @@ ghost use Rattle.dmn_outside.specs.Failing.{KeepsSurely};
 ghost use Rattle.dmn_outside.specs.Later.{IsLater, IsQuiet};
 ghost use Rattle.dmn_light.specs.Answers.{IsBounded};
 ghost use Rattle.dmn_light.specs.Laws.{EndsExactly, ending_of};
-ghost use Rattle.dmn_light.specs.Outcome.{Outcome};
+ghost use Rattle.dmn_light.specs.Outcome.{IsEnding, Outcome};
 ghost use Rattle.dmn_light.specs.Room.{EndsSurely, NeverFaults, Suffices};
 ghost use Rattle.dmn_light.specs.Steps.{Asks, Turns, TurnsSurely};
 
 use crate::answer::Answer;
-use crate::ended::Ended;
 use crate::machine::{answer, reading};
 use dmn_client::{Client, ClientFault};
 use dmn_frames::{Body, Head, read_body, read_head};
 use dmn_outside::{Failed, Line, send_all};
+use dmn_status::Status;
 use std::alloc::Global;
 
 /// As many frames as one run answers.
@@ -80,9 +80,10 @@ fn serve_frame<L: Line>(alloc: Global, line: &mut L, client: &mut Client) -> Res
 }
 
 // Answers the frames of a line, by a new client.
-fn serve<L: Line>(alloc: Global, line: &mut L) -> Ended
+fn serve<L: Line>(alloc: Global, line: &mut L) -> Status
     ensures outcome { L.tells ≡ true → Outcome result (L.line line.old).talk (L.line line.new).talk }
-    ensures fault { result ≡ Ended.LineFault → Rose (L.line line.old).faults (L.line line.new).faults }
+    ensures ends { IsEnding result }
+    ensures fault { result ≡ Status.LineFault → Rose (L.line line.old).faults (L.line line.new).faults }
     ensures later { IsLater L.tells_moments (L.time line.old) (L.time line.new) (L.line line.old) (L.line line.new) }
     ensures disk { L.disk line.new ≡ L.disk line.old }
     ensures time { Rose (L.time line.old) (L.time line.new) }
@@ -92,19 +93,22 @@ fn serve<L: Line>(alloc: Global, line: &mut L) -> Ended
     'serve: for _ in 0..MOST_FRAMES {
         match serve_frame(alloc, line, &mut client) {
             Ok(Turn::Answered) => {}
-            Ok(Turn::Ended) => return Ended::Done,
-            Ok(Turn::Cut) => return Ended::CutInput,
-            Err(Failed) => return Ended::LineFault,
+            Ok(Turn::Ended) => return Status::Done,
+            Ok(Turn::Cut) => return Status::CutInput,
+            Err(Failed) => return Status::LineFault,
         }
     }
-    Ended::Enough
+    Status::Enough
 }
 
 /// A light client over a line: answers its frames, from a client without headers and with an empty list on.
-pub fn client<L: Line>(alloc: Global, line: &mut L) -> Ended
+pub fn client<L: Line>(alloc: Global, line: &mut L) -> Status
     // Where the line tells its bytes: what was read and sent, by the ending. Each answer is the client's, or Memory, and
     // then nothing changed.
     ensures outcome { L.tells ≡ true → Outcome result (L.line line.old).talk (L.line line.new).talk }
+
+    // Nothing else is answered than Done, CutInput, Enough and LineFault: no memory is taken at the start.
+    ensures ends { IsEnding result }
 
     // Done, CutInput and Enough come only where the text's frames say so, and where no count rose one of them comes.
     ensures exact { L.tells ≡ true → (frames : List Frame) (left : List ℕ) → Cuts (L.line line.old).talk.left frames left → EndsExactly result frames left }
@@ -123,7 +127,7 @@ pub fn client<L: Line>(alloc: Global, line: &mut L) -> Ended
     ensures time { Rose (L.time line.old) (L.time line.new) }
 
     // LineFault comes only where the count of line faults rose.
-    ensures fault { result ≡ Ended.LineFault → Rose (L.line line.old).faults (L.line line.new).faults }
+    ensures fault { result ≡ Status.LineFault → Rose (L.line line.old).faults (L.line line.new).faults }
 {
     serve(alloc, line)
 }

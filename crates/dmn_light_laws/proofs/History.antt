@@ -1,6 +1,6 @@
 -- What each state of a replay keeps.
-use Rattle.std.proofs.Common.{◌≡◌, List, [], ◌∷◌, ◌++◌, length, refl, subst}
-use Rattle.std.specs.Prelude.{Option, None, Some, Result, Ok, Err}
+use Rattle.std.proofs.Common.{◌≡◌, ◌≤◌, List, [], ◌∷◌, ◌++◌, length, refl, subst, arith}
+use Rattle.std.specs.Prelude.{Contains, Option, None, Some, Result, Ok, Err}
 use Rattle.std.specs.List.{AllByRecursion}
 use Rattle.std.proofs.lemmas.List.Elements.{All-contains, All-from_recursion, All-nil}
 use Rattle.dmn_block.specs.declared.frame.BlockFrame.{BlockFrame}
@@ -8,7 +8,7 @@ use Rattle.dmn_block.specs.declared.refusal.Refusal.{Refusal}
 use Rattle.dmn_block.specs.Shape.{first_of}
 use Rattle.dmn_block.specs.State.{State, origin}
 use Rattle.dmn_branch.specs.Replay.{replay, replay_on, with_next}
-use Rattle.dmn_branch.specs.Step.{closed, coinbase_in, formed_on, last_of, last_rules, outcome, profile_of, state_of, step, step_from, tip_of, unless}
+use Rattle.dmn_branch.specs.Step.{closed, coinbase_in, formed_on, last_of, last_rules, most_rows, outcome, profile_of, state_of, step, step_from, tip_of, unless}
 use Rattle.dmn_client.specs.Sound.{RowFits, root_of_txs, told_by}
 use Rattle.dmn_quorums.specs.Forming.{Formed}
 use Rattle.dmn_rows.specs.declared.profile.Profile.{Profile}
@@ -34,10 +34,11 @@ IfBlock (Some block) state = Proves block state
 pub record IsGood (state : State) : Type 0 where
   pub hash : length state.hash.0 ≡ 32
   pub rows : Keeps state.rows
+  pub few : length state.rows ≤ most_rows
   pub block : IfBlock state.block state
 
 origin_good : (start : StartRecord) → length start.hash.0 ≡ 32 → IsGood (origin start)
-origin_good start long = record { hash = long; rows = record { ascends = tt; fits = All-nil RowFits }; block = tt }
+origin_good start long = record { hash = long; rows = record { ascends = tt; fits = All-nil RowFits }; few = omega arith; block = tt }
 
 unless_same : {X : Type 0} (o : Option Refusal) (x y : X) → unless o x ≡ Ok y → (o ≡ None) × (x ≡ y)
 unless_same None x y e = (refl, ok_same e)
@@ -51,12 +52,14 @@ next_good profile formed tip block next has good is =
     let kept = outcome_keeps profile formed tip block a.0 good.hash well.payloads good.rows a.1 in
     let b = unless_same (first_of (last_rules (coinbase_in block.txs) a.0)) (state_of tip block a.0) next a.2 in
     let tells = coinbase_told block tip.hash tip.height kept.shape in
+    let told = list_told block.txs tells.0 a.0 tells.1 b.0 in
     subst IsGood b.1 (record {
       hash = well.hash;
       rows = kept.keeps;
+      few = told.1;
       block = record {
         fits = well.fits;
-        told = list_told block.txs tells.0 a.0 tells.1 b.0;
+        told = told.0;
         root = root_told block tip.hash tip.height has.ids kept.shape;
       };
     })
@@ -83,9 +86,13 @@ replay_good start states [] long bodies all = all
 replay_good start states (block ∷ blocks) long bodies all =
     replay_good start (with_next states (step start states block)) blocks long bodies.1 (stepped_good start states block long bodies.0 all)
 
+pub state_good : (start : StartRecord) (blocks : List BlockFrame) (state : State) → AreBodies start blocks → Contains (replay start blocks) state → IsGood state
+state_good start blocks state bodies among =
+    let all = replay_good start (origin start ∷ []) blocks bodies.hash bodies.bodies (origin_good start bodies.hash, tt) in
+    All-contains IsGood (replay start blocks) state (All-from_recursion IsGood (replay start blocks) all) among
+
 -- the state behind a block
 pub behind_good : (start : StartRecord) (blocks : List BlockFrame) (block : BlockFrame) (state : State) → AreBodies start blocks → IsBehind start blocks block state → IsGood state × Proves block state
 behind_good start blocks block state bodies behind =
-    let all = replay_good start (origin start ∷ []) blocks bodies.hash bodies.bodies (origin_good start bodies.hash, tt) in
-    let good = All-contains IsGood (replay start blocks) state (All-from_recursion IsGood (replay start blocks) all) behind.among in
+    let good = state_good start blocks state bodies behind.among in
     (good, subst (λ (o : Option BlockFrame). IfBlock o state) behind.block_is good.block)

@@ -4,3 +4,4 @@ pub mod Keeping
 pub mod Told
 pub mod History
 pub mod Sound
+pub mod Complete

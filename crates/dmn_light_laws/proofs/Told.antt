@@ -1,5 +1,5 @@
 -- What the rules on a block say of its root and of its coinbase.
-use Rattle.std.proofs.Common.{◌≡◌, ℕ, ◌+◌, ◌==◌, Bool, true, false, List, [], ◌∷◌, ◌++◌, length, refl, sym, ap, ◌∙◌, subst, nat_lt}
+use Rattle.std.proofs.Common.{◌≡◌, ℕ, ◌+◌, ◌≤◌, ◌==◌, Bool, true, false, List, [], ◌∷◌, ◌++◌, length, refl, sym, ap, ◌∙◌, subst, nat_lt}
 use Rattle.std.specs.Prelude.{Option, None, Some, Result, Ok, Err, not, ◌&&◌, ◌||◌}
 use Rattle.std.specs.Option.{option_or}
 use Rattle.std.specs.Result.{is_ok, result_ok}
@@ -9,7 +9,7 @@ use Rattle.dmn_block.specs.declared.frame.BlockFrame.{BlockFrame}
 use Rattle.dmn_block.specs.declared.refusal.Refusal.{Refusal}
 use Rattle.dmn_block.specs.Defs.{HasItsIds}
 use Rattle.dmn_block.specs.Shape.{Numbered, begins_with_coinbase, broken_rule, by_block, coinbase_rules, first_broken, id_rules, is_no_payload, least, link_rules, of_tx, payload_rules, stands_earlier, tx_rules, unnumbered, verdict_rules, version_of, when}
-use Rattle.dmn_branch.specs.Step.{Outcome, coinbase_in, last_rules}
+use Rattle.dmn_branch.specs.Step.{Outcome, coinbase_in, last_rules, most_rows}
 use Rattle.dmn_branch.proofs.Stepping.{last_says}
 use Rattle.dmn_bytes.specs.declared.fault.Departure.{Departure}
 use Rattle.dmn_bytes.specs.declared.hash.Hash256.{Hash256}
@@ -112,8 +112,8 @@ coinbase_told block tip height none = go block.txs begins last
         let there = ok_there (whole cb t.payload) (payload_there t.payload shape.1 (held (version_of t.payload == 1) _ b.0)) in
         (there.0, tells_first t txs there.0 first (not_false (is_cb_type t) shape.0) there.1)
 
--- behind the last rules the coinbase tells the root of the list after the block
-pub list_told : (txs : List Tx) (value : CbTx) (after : Outcome) → Tells txs value → first_broken (unnumbered (last_rules (coinbase_in txs) after)) ≡ None → told_by txs ≡ Some (root_of (simple after.list.rows))
+-- behind the last rules the coinbase tells the root of the list after the block, and that has no more rows than there may be
+pub list_told : (txs : List Tx) (value : CbTx) (after : Outcome) → Tells txs value → first_broken (unnumbered (last_rules (coinbase_in txs) after)) ≡ None → (told_by txs ≡ Some (root_of (simple after.list.rows))) × (length after.list.rows ≤ most_rows)
 list_told txs value after tells none =
-    let rules = subst (λ (o : Option CbTx). first_broken (unnumbered (last_rules o after)) ≡ None) tells.payload none in
-    tells.told ∙ ap (λ (root : Hash256). Some root) (last_says value after rules).root
+    let says = last_says value after (subst (λ (o : Option CbTx). first_broken (unnumbered (last_rules o after)) ≡ None) tells.payload none) in
+    (tells.told ∙ ap (λ (root : Hash256). Some root) says.root, says.rows)

@@ -1,3 +1,4 @@
 pub mod Defs
 pub mod Branches
 pub mod Sound
+pub mod Complete

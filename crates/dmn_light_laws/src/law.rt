@@ -5,7 +5,10 @@ ghost use Rattle.dmn_block.specs.declared.frame.BlockFrame.{BlockFrame};
 ghost use Rattle.dmn_block.specs.State.{State};
 ghost use Rattle.dmn_bytes.specs.Law.{IsBytes};
 ghost use Rattle.dmn_client.specs.Step.{ClientState, client_step, new_client};
+ghost use Rattle.dmn_diff.specs.declared.diff.Diff.{Diff};
 ghost use Rattle.dmn_rows.specs.declared.start.StartRecord.{StartRecord};
+ghost use Rattle.dmn_sml.specs.declared.entry.SmlEntry.{SmlEntry};
+ghost use Rattle.dmn_light_laws.specs.Complete.{IsCompleteBehind};
 ghost use Rattle.dmn_light_laws.specs.Sound.{IsSoundBehind, KeepsList};
 
 /// The list of a client after an accepted diff is the simplified list of the rows that replay has behind the block that
@@ -13,6 +16,12 @@ ghost use Rattle.dmn_light_laws.specs.Sound.{IsSoundBehind, KeepsList};
 /// proofs of any depths.
 pub fn client_has_replayed_list()
     ensures { (start : StartRecord) (blocks : List BlockFrame) (block : BlockFrame) (state : State) (old new : ClientState) (text : List ℕ) → IsSoundBehind start blocks block state old text new }
+{}
+
+/// The diff from what a client holds, or from the empty list, to the list of the rows that replay has behind a block is
+/// accepted, where the client has the block's header; it then holds that list.
+pub fn client_takes_replayed_list()
+    ensures { (start : StartRecord) (blocks : List BlockFrame) (block : BlockFrame) (state : State) (base : List SmlEntry) (d : Diff) (c : ClientState) → IsCompleteBehind start blocks block state base d c }
 {}
 
 /// A new client keeps what that law asks of a list, and each accepted diff leaves it so.

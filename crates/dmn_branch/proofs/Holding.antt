@@ -1,6 +1,6 @@
 -- Versions that are held, where the arenas change around them.
 use Rattle.std.proofs.Common.{◌≡◌, ℕ, zero, suc, ◌+◌, ◌-◌, ◌<◌, ◌≤◌, List, [], ◌∷◌, ◌++◌, length, length-append, take, drop, get_or, map, find, true, false, cond, Option, Some, refl, sym, ap, ◌∙◌, subst, arith, ◌⊎◌, inl, inr}
-use Rattle.std.specs.Prelude.{slice_get, Result, Ok, Err, OnOk}
+use Rattle.std.specs.Prelude.{slice_get, Result, Ok, Err, OnErr, OnOk}
 use Rattle.std.specs.Result.{is_err}
 use Rattle.std.specs.Option.{option_map, unwrap_or}
 use Rattle.std.specs.Str.{bytes_eq}
@@ -25,7 +25,7 @@ use Rattle.dmn_branch.specs.declared.held.Held.{Held}
 use Rattle.dmn_block.specs.State.{State}
 use Rattle.dmn_branch.specs.Machine.{MachineState, held_states}
 use Rattle.dmn_branch.proofs.Replaying.{split, without_last}
-use Rattle.dmn_branch.specs.Stands.{Kept, Keeping, AllStand, AllTreesStand, AreSound, IsLeft, IsWhole, StandsAt, StandsFor, kept_in, kept_of}
+use Rattle.dmn_branch.specs.Stands.{Kept, Keeping, AllStand, AllTreesStand, AreSound, IsAlike, IsLeft, IsWhole, StandsAt, StandsFor, kept_in, kept_of}
 
 kept_same : {ix iy : Indexes} (mined more : List MinedAt) (h : Held) → Stays ix iy h.version → undone h.height more ≡ undone h.height mined → kept_in iy more h ≡ kept_in ix mined h
 kept_same {ix} {iy} mined more h stays same =
@@ -167,9 +167,22 @@ all_trees ix mined (h ∷ held) [] whole all = absurd all
 all_trees ix mined (h ∷ held) (s ∷ states) whole all =
     (trees_at ix mined h s (whole 0 h (omega arith)) all.0, all_trees ix mined held states (λ k d lt. whole (suc k) d (omega (arith, lt))) all.1)
 
--- what is left of a branch stands for what it stood for
-pub left_stands : {old new : Keeping} (m : MachineState) → IsLeft old new → new.lists ≡ map (kept_in new.indexes new.mined) new.held → AreSound new.indexes new.mined new.held → StandsFor old m → StandsFor new m
-left_stands {old} {new} m left read sound stands =
+pub alike_of : {old new : Keeping} → IsLeft old new → IsAlike old new
+alike_of left = record { profile = left.profile; first = left.first; lists = left.lists; coinbases = left.coinbases; top = left.top; pins = left.pins }
+
+pub alike_then : {a b c : Keeping} → IsAlike a b → IsAlike b c → IsAlike a c
+alike_then one two = record {
+  profile = two.profile ∙ one.profile;
+  first = two.first ∙ one.first;
+  lists = two.lists ∙ one.lists;
+  coinbases = two.coinbases ∙ one.coinbases;
+  top = two.top ∙ one.top;
+  pins = two.pins ∙ one.pins;
+}
+
+-- what reads as before stands for what it stood for
+pub alike_stands : {old new : Keeping} (m : MachineState) → IsAlike old new → new.lists ≡ map (kept_in new.indexes new.mined) new.held → AreSound new.indexes new.mined new.held → StandsFor old m → StandsFor new m
+alike_stands {old} {new} m left read sound stands =
     let lists = subst (λ (l : List Kept). AllStand l (held_states m)) (sym left.lists) stands.lists in
     record {
       profile = left.profile ∙ stands.profile;
@@ -182,6 +195,12 @@ left_stands {old} {new} m left read sound stands =
       pins = left.pins ∙ stands.pins;
       numbered = stands.numbered;
     }
+
+pub left_stands : {old new : Keeping} (m : MachineState) → IsLeft old new → new.lists ≡ map (kept_in new.indexes new.mined) new.held → AreSound new.indexes new.mined new.held → StandsFor old m → StandsFor new m
+left_stands m left read sound stands = alike_stands m (alike_of left) read sound stands
+
+pub alike_none : (b : Keeping) → IsAlike b b
+alike_none b = record { profile = refl; first = refl; lists = refl; coinbases = refl; top = refl; pins = refl }
 
 pub left_none : (b : Keeping) → IsLeft b b
 left_none b = record { profile = refl; first = refl; held = refl; lists = refl; coinbases = refl; top = refl; pinned = refl; pins = refl }
@@ -218,6 +237,11 @@ last_whole {ix} {mined} held h s some = subst (λ (x : Held). IsWhole (kept_in i
 pub ok_from : {A E P : Type 0} (r : Result A E) → is_err r ≡ false → OnOk r P → P
 ok_from (Ok x) none p = p
 ok_from (Err e) none p = cc
+
+-- what holds of a failure, by what held of it before
+pub if_err : {A E P Q : Type 0} (r : Result A E) → (P → Q) → OnErr r P → OnErr r Q
+if_err (Ok x) then p = p
+if_err (Err e) then p = then p
 
 pub some_is : {A : Type 0} (o : Option A) (x y : A) → o ≡ Some x → o ≡ Some y → x ≡ y
 some_is o x y a b = ap (λ (p : Option _). unwrap_or p x) (sym a ∙ b)

@@ -20,3 +20,4 @@ mod Mining
 mod Punishing
 mod Drawing
 mod Blocks
+mod Moving

@@ -7,6 +7,7 @@ pub mod Pins
 pub mod Machine
 pub mod Coinbases
 pub mod Stands
+pub mod Compact
 pub mod Asked
 pub mod Fault
 pub mod Parts

@@ -210,6 +210,15 @@ pub record IsLeft (old new : Keeping) : Type 0 where
   pub pinned : new.pinned ≡ old.pinned
   pub pins : new.pins ≡ old.pins
 
+-- What is held of before is held, and reads as before; so do the pins. Nodes, roots and marks may be others.
+pub record IsAlike (old new : Keeping) : Type 0 where
+  pub profile : new.profile ≡ old.profile
+  pub first : new.first ≡ old.first
+  pub lists : new.lists ≡ old.lists
+  pub coinbases : new.coinbases ≡ old.coinbases
+  pub top : new.top ≡ old.top
+  pub pins : new.pins ≡ old.pins
+
 -- the lowest height that is held
 abbrev pub low_kept : Keeping → ℕ
 low_kept branch = low_of branch.profile branch.first branch.top

@@ -19,6 +19,7 @@ ghost use Rattle.dmn_rows.specs.Start.{start_record};
 ghost use Rattle.dmn_versions.specs.Trees.{IsSound};
 ghost use Rattle.dmn_branch.specs.Asked.{told, lent_part, IsPageOf, IsToldOf, LeavesOut, Lends, hashes_gone, members_in, payee_of, payees_of, quorums_in, row_of, rows_at, seen_at};
 ghost use Rattle.dmn_branch.specs.Coinbases.{coinbase_of, part_of};
+ghost use Rattle.dmn_branch.specs.Compact.{MoreByAtMost};
 ghost use Rattle.dmn_branch.specs.declared.held.Held.{Held};
 ghost use Rattle.dmn_branch.specs.Fault.{Tells, TellsFull, TellsRule};
 ghost use Rattle.dmn_branch.specs.Machine as machine;
@@ -26,13 +27,14 @@ ghost use Rattle.dmn_branch.specs.Machine.{MachineState};
 ghost use Rattle.dmn_branch.specs.Parts.{StandsIn, IsSettled, IsTreeOf, all_formed_in, formed_in};
 ghost use Rattle.dmn_branch.specs.Pins.{free_number, number_after, pin_of};
 ghost use Rattle.dmn_quorums.specs.Duty.{types_of};
-ghost use Rattle.dmn_branch.specs.Stands.{StandsFor, IsNext, IsReady, IsHeld, IsLeft, HoldsBase, kept_in, low_kept, marks_over, prepared_in, IsAboveFloor, low_of, floor_kept};
+ghost use Rattle.dmn_branch.specs.Stands.{StandsFor, IsAlike, IsNext, IsReady, IsHeld, IsLeft, HoldsBase, kept_in, low_kept, marks_over, prepared_in, IsAboveFloor, low_of, floor_kept};
 ghost use Rattle.dmn_branch.specs.Step.{profile_of as profile_by, most_rows};
 ghost use Rattle.dmn_walk.specs.Page.{IsReady as IsReadable, pairs_left};
 
 use crate::asked::{payees_of, row_of};
 use crate::change::{RowChange, change};
 use crate::coinbase::{CoinbasePart, coinbase_part};
+use crate::compaction::{Compaction, is_due, renew_held, versions};
 use crate::fault::{DisconnectRefusal, PinFault, PrepareFault};
 use crate::held::{Held, Prepared};
 use crate::listing::Listing;
@@ -68,6 +70,8 @@ pub struct Branch {
     // Those that aren't null. Above the tip stand only those of a block that was prepared.
     mined: Mined,
     top: u32,
+    // How many nodes each arena had after its last compaction.
+    after: [u64; 8],
     pins: PinList,
     next_pin: Option<u32>,
 }
@@ -156,6 +160,7 @@ impl Branch {
             coinbases,
             mined: Mined::new(alloc),
             top: start.first - 1,
+            after: [0; 8],
             pins: PinList::new(alloc),
             next_pin: Some(1),
         })
@@ -364,8 +369,9 @@ impl Branch {
         change(alloc, &self.indexes, old, new)
     }
 
-    /// Judges a block that is to follow the tip, and makes the state after it, and room for that. What is held stays as
-    /// it is, and reads as before.
+    /// Judges a block that is to follow the tip, and makes the state after it, and room for that. What is held reads as
+    /// before. First each arena is compacted that has more than 4,096 nodes, and more than four times as many as after its
+    /// last compaction.
     pub fn prepare(&mut self, alloc: Global, block: &BlockFrame) -> Result<Prepared, PrepareFault>
         requires { IsBlock block.now }
         // What is prepared is the state after the block, which the machine accepts.
@@ -374,16 +380,42 @@ impl Branch {
         ensures refused { (m : MachineState) → StandsFor self.old m → IfErr result (Tells (machine.connect m block.now)) }
         ensures same { (m : MachineState) → StandsFor self.old m → StandsFor self.new m }
         ensures ready { IfOk result (IsReady self.new) }
-        // What is left of the branch is what it was, but for room and the nodes of what is prepared.
-        ensures left { IsLeft self.old self.new }
+        // What is held reads as before, by other nodes where an arena was compacted.
+        ensures left { IsAlike self.old self.new }
         // Each event adds at most 232 nodes to each arena; a block that isn't accepted leaves none.
         ensures events { (m : MachineState) → StandsFor self.old m → IfOk result (λ prepared. prepared.events ≡ machine.events m block.now) }
-        ensures grown { IfOk result (λ prepared. GrownBy (232 * prepared.events) self.old.indexes self.new.indexes) }
-        ensures same_nodes { OnErr result (SameNodes self.old.indexes self.new.indexes) }
+        ensures grown { IfOk result (λ prepared. MoreByAtMost (232 * prepared.events) self.old.indexes self.new.indexes) }
+        ensures none_more { OnErr result (MoreByAtMost 0 self.old.indexes self.new.indexes) }
     {
+        self.compact(alloc)?;
         self.check_hash(&block.hash)?;
         self.settle();
         self.prepare_next(alloc, block)
+    }
+
+    /// How many nodes the arena of rows has.
+    pub fn nodes(&self) -> usize
+        ensures { result ≡ length self.now.indexes.rows.nodes.items }
+    {
+        self.indexes.rows.nodes.len()
+    }
+
+    // Compacts each arena that has grown far beyond what is held. Without memory nothing changes.
+    fn compact(&mut self, alloc: Global) -> Result<(), Memory>
+        ensures same { (m : MachineState) → StandsFor self.old m → StandsFor self.new m }
+        ensures alike { IsAlike self.old self.new }
+        ensures few { MoreByAtMost 0 self.old.indexes self.new.indexes }
+    {
+        if !is_due(&self.indexes.marks(), &self.after) {
+            return Ok(());
+        }
+        let versions = versions(alloc, &self.held, &self.pins)?;
+        let made = Compaction::new(alloc, &self.indexes, &self.after, versions.as_slice())?;
+        self.pins.renew(&made, self.held.len());
+        renew_held(&mut self.held, &made);
+        self.after = made.marks(&self.after);
+        made.take_place(&mut self.indexes);
+        Ok(())
     }
 
     // Drops the commitments of a block that was prepared and not added.

@@ -6,6 +6,7 @@ mod branch;
 mod change;
 mod coinbase;
 mod commitments;
+mod compaction;
 mod confirm;
 mod fault;
 mod held;

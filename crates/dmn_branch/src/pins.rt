@@ -1,11 +1,14 @@
 //! Pins: lists that stay readable, whatever comes, until they are released.
 
-ghost use Rattle.std.specs.Prelude.{◌≡◌, ◌==◌, [], ◌∷◌, ◌++◌, OnOk, OnErr, filter, find, length, nat_lt, not};
+ghost use Rattle.std.specs.Prelude.{◌≡◌, ◌+◌, ◌<◌, ◌==◌, ℕ, [], ◌∷◌, ◌++◌, OnOk, OnErr, filter, find, length, map, nat_lt, not};
 ghost use Rattle.std.specs.Option.{option_copied};
+ghost use Rattle.dmn_branch.specs.Compact.{pin_after, pin_version, AreMade, HasVersion};
 ghost use Rattle.dmn_branch.specs.Pins.{most_pins};
 ghost use Rattle.dmn_branch.specs.Stands.{marks_over, most_mark};
 
+use crate::compaction::Compaction;
 use dmn_bytes::Memory;
+use dmn_indexes::Version;
 use dmn_versions::Root;
 use std::alloc::Global;
 use std::marker::Model;
@@ -20,6 +23,17 @@ pub struct Pin {
     pub height: u32,
     pub root: Root,
     pub mark: u64,
+}
+
+impl Pin {
+    // A version with the tree of rows alone.
+    fn version(&self) -> Version
+        ensures { result ≡ pin_version self.now }
+    {
+        let mut version = Version::empty();
+        version.rows = self.root;
+        version
+    }
 }
 
 /// The pins that are live, in the order of their numbers. Contracts see the list.
@@ -74,6 +88,28 @@ impl PinList {
         ensures { self.new ≡ filter (λ pin. not (pin.number == number)) self.old }
     {
         self.items.retain(|pin| pin.number != number);
+    }
+
+    /// Adds the version of each pin.
+    pub fn add_versions(&self, versions: &mut Vec<Version>) -> Result<(), Memory>
+        ensures { OnOk result (versions.new.items ≡ versions.old.items ++ map pin_version self.now) }
+    {
+        for pin in &self.items {
+            versions.push(pin.version()).map_err(|_| Memory)?;
+        }
+        Ok(())
+    }
+
+    /// Gives each pin its new root, of which the first stands at a place, and its new mark.
+    pub fn renew(&mut self, made: &Compaction, first: usize)
+        requires { (place : ℕ) → place < length self.old → HasVersion made.now (first + place) }
+        ensures { AreMade (λ place. pin_after made.now (first + place)) self.old self.new }
+    {
+        for (place, pin) in self.items.iter_mut().enumerate() {
+            let version = made.version(first + place);
+            pin.root = version.rows;
+            pin.mark = made.rows_mark(pin.mark);
+        }
     }
 
     // The greatest of a mark and those of the pins.

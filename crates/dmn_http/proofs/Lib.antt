@@ -1,0 +1,7 @@
+mod Plainly
+mod Jsons
+mod Writing
+mod Exchanging
+mod Once
+mod Behind
+mod Framing

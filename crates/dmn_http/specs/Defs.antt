@@ -1,0 +1,6 @@
+-- One HTTP request and one reply for each caller. A reader begins here; the parts are:
+--   Exchanges   what a caller's bytes ask for: the first check that fails, or the request; the head stands in dmn_head
+--   Replies     the reply to all the bytes of a caller, and the machine after it; how a reply is sent
+--   Answered    the reply to each answer
+--   Texts       status, words, head and body of a reply; the replies of checks that fail
+--   Steps       what the private parts give

@@ -1,5 +1,5 @@
 -- What a slot's file holds, by its gate and what stands behind.
-use Rattle.std.proofs.Common.{◌≡◌, ◌≢◌, ◌⊎◌, inl, inr, ℕ, suc, ◌+◌, ◌-◌, ◌≤◌, ◌<◌, ◌==◌, ◌&&◌, not, Bool, true, false, List, [], ◌∷◌, ◌++◌, length, take, drop, get_or, Result, Ok, Err, sym, ap, subst, ◌∙◌, arith, refl, if◌then◌else◌, eq-eqb}
+use Rattle.std.proofs.Common.{◌≡◌, ◌≢◌, ◌⊎◌, inl, inr, ℕ, suc, ◌-◌, ◌≤◌, ◌==◌, ◌&&◌, not, Bool, true, false, List, [], ◌∷◌, ◌++◌, length, take, drop, get_or, Result, Ok, Err, sym, ap, subst, ◌∙◌, arith, refl, if◌then◌else◌, eq-eqb}
 use Rattle.std.specs.Prelude.{Option, None, Some, nat_le}
 use Rattle.std.proofs.lemmas.Bool.{cases_eq, leb-true, le-leb}
 use Rattle.std.proofs.lemmas.Bool.Decides.{nat_tests}
@@ -7,7 +7,7 @@ use Rattle.std.proofs.lemmas.List.{length-drop, take_all}
 use Rattle.dmn_bytes.specs.declared.fault.Departure.{Departure}
 use Rattle.dmn_bytes.specs.declared.fault.ReadError.{ReadError}
 use Rattle.dmn_bytes.specs.declared.fault.ReadError.TheVariants as errors
-use Rattle.dmn_bytes.specs.Law.{IsBytes, Stands}
+use Rattle.dmn_bytes.specs.Law.{IsBytes}
 use Rattle.dmn_bytes.specs.Reading.{Fails}
 use Rattle.dmn_outside.specs.Changes.{ReadsAt, placed}
 use Rattle.dmn_outside.specs.Disk.{Torn}

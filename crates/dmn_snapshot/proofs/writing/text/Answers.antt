@@ -1,4 +1,4 @@
-use Rattle.std.proofs.Common.{◌≡◌, ℕ, refl, [], ◌++◌, List, length, sym, ap, ◌∙◌, subst, ◌+◌, ◌<◌, ◌^◌}
+use Rattle.std.proofs.Common.{◌≡◌, ℕ, refl, [], ◌++◌, List, sym, ap, ◌∙◌, subst, ◌<◌, ◌^◌}
 use Rattle.std.specs.Int.{w64, to_le_bytes}
 use Rattle.dmn_bytes.specs.Format.{filled}
 use Rattle.dmn_bytes.proofs.Send.{sent_then}

@@ -15,4 +15,4 @@ pub use coinbase::CoinbasePart;
 pub use counter::Counter;
 pub use data::{HeightData, SnapshotData};
 pub use law::one_value;
-pub use snapshot::{feed_snapshot, read_filling, read_held, write_held};
+pub use snapshot::{feed_snapshot, read_held, read_to_end, write_held};

@@ -2,7 +2,7 @@
 
 ghost use Rattle.std.specs.Prelude.{◌≡◌, ◌≤◌, length, IfOk, IfErr, MatchResult, OnOk};
 ghost use Rattle.std.specs.List.{flat_map};
-ghost use Rattle.dmn_bytes.specs.Format.{filled, whole};
+ghost use Rattle.dmn_bytes.specs.Format.{whole};
 ghost use Rattle.dmn_bytes.specs.Reading.{DepartsBy, FailsWhole, Gives, GivesWhole};
 ghost use Rattle.dmn_bytes.specs.Sending.{Appends};
 ghost use Rattle.dmn_held.specs.Defs.{IsHeld, held_text};
@@ -34,9 +34,9 @@ fn read_heights(reader: &mut Reader<'_>, alloc: Global) -> Result<Items<HeightDa
     Ok(Items::from_vec(items))
 }
 
-// The value whose text stands from here up to the end.
+/// The value whose text stands from here up to the end.
 #[tactic(auto, unfolding(crate::specs::Snapshot::snapshot))]
-fn read_rest(reader: &mut Reader<'_>, alloc: Global) -> Result<SnapshotData, ReadError>
+pub fn read_to_end(reader: &mut Reader<'_>, alloc: Global) -> Result<SnapshotData, ReadError>
     ensures { Gives snapshot reader.old reader.new result }
 {
     let top = reader.u32()?;
@@ -59,29 +59,11 @@ fn read_rest(reader: &mut Reader<'_>, alloc: Global) -> Result<SnapshotData, Rea
     })
 }
 
-/// The value whose text fills the next n bytes.
-#[tactic(auto, unfolding(dmn_bytes::specs::Format::filled))]
-pub fn read_filling(
-    reader: &mut Reader<'_>,
-    alloc: Global,
-    n: usize,
-) -> Result<SnapshotData, ReadError>
-    ensures { Gives (filled n snapshot) reader.old reader.new result }
-{
-    let mut inner = reader.within(n)?;
-    let value = read_rest(&mut inner, alloc)?;
-    if inner.rest() > 0 {
-        return Err(ReadError::Departs(Departure::Form { at: inner.at() }));
-    }
-    reader.skip(n);
-    Ok(value)
-}
-
 fn all_of(alloc: Global, text: &[u8]) -> Result<SnapshotData, ReadError>
     ensures { GivesWhole snapshot text.now result }
 {
     let mut reader = Reader::new(text);
-    let value = read_rest(&mut reader, alloc)?;
+    let value = read_to_end(&mut reader, alloc)?;
     let at = reader.at();
     if at < text.len() {
         return Err(ReadError::Departs(Departure::Form { at }));

@@ -1,0 +1,4 @@
+pub mod Gates
+pub mod Parts
+pub mod Counts
+pub mod Sizes

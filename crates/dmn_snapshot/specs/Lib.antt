@@ -1,0 +1,4 @@
+pub mod Defs
+pub mod Slot
+pub mod Steps
+pub mod Sure

@@ -7,6 +7,7 @@ use Rattle.dmn_branch.specs.Asked.{told}
 use Rattle.dmn_branch.specs.Machine.{MachineState, is_held}
 use Rattle.dmn_branch.specs.Pins.{free_number, pin_of}
 use Rattle.dmn_branch.specs.Stands as branches
+use Rattle.dmn_branch.specs.Stands.{Keeping}
 use Rattle.dmn_branch.specs.declared.fault.DisconnectRefusal.{DisconnectRefusal}
 use Rattle.dmn_branch.specs.declared.fault.DisconnectRefusal.TheVariants as refusals
 use Rattle.dmn_branch.specs.declared.tip.Tip.{Tip}
@@ -36,8 +37,8 @@ use Rattle.dmn_desk.specs.declared.desk.Desk.{Desk}
 use Rattle.dmn_desk.specs.declared.request.Request.{Request}
 use Rattle.dmn_desk.specs.declared.request.Request.TheVariants as requests
 use Rattle.dmn_desk.specs.Ask.{ask, connect, disconnect, not_connected, not_disconnected, not_held, pin, release}
-use Rattle.dmn_desk.specs.Asked.{Answers, MayHold, entry_by}
-use Rattle.dmn_desk.specs.Kept.{IsTrueTo}
+use Rattle.dmn_desk.specs.Asked.{Answers, MayHold, TellsOrLacks, entry_by}
+use Rattle.dmn_desk.specs.Kept.{IsTrueTo, StayChanges}
 use Rattle.dmn_desk.proofs.Keeping.{changes_apart, changes_stay, none_kept}
 
 -- ---- a block
@@ -140,6 +141,13 @@ release_answers desk number old new told_of gives m stands keeps =
 pub unknown_pin_answers : (desk : Desk) (number : ℕ) (old new : Registry) (told_of : Told) → ((m : Machine) → StandsOn old m told_of → (is_some (pin_of m.pins number) ≡ false) × StandsOn new m told_of) → Answers (requests.Release number) (Ok (Short short.PinUnknown)) desk desk old new told_of told_of
 unfolding ask release
 unknown_pin_answers desk number old new told_of gives m stands keeps = let h = gives m stands in (m, h.1, keeps, inl (rw h.0 refl))
+
+-- ---- questions
+
+pub told_answers : (request : Request) (answer : Answer) (desk next : Desk) (of : Registry) (branch : Keeping) (told_of : Told) → branch ≡ of.branch → TellsOrLacks request answer desk branch → StayChanges branch desk.changes next.changes → Answers request (Ok answer) desk next of of told_of told_of
+told_answers request answer desk next of branch told_of is tells stay m stands keeps =
+    let held = subst (λ (b : Keeping). branches.StandsFor b (state_of m)) (sym is) stands.registry_stands.branch in
+    (m, stands, stay (state_of m) held keeps, tells m held keeps)
 
 -- ---- all requests
 

@@ -113,7 +113,9 @@ rows_ascend branch m (Some height) stands held =
     ascends_in kept.0 (state_at m height) kept.1
 
 has_height : (branch : Keeping) (m : MachineState) (height : ℕ) → StandsFor branch m → IsHeld branch height → HasHeight m height
-has_height branch m height stands held = let kept = held_kept branch m height stands held in some_in kept.0 (state_at m height) kept.1
+has_height branch m height stands held =
+    let kept = held_kept branch m height stands held in
+    record { first = omega (arith, held.low, stands.first); state = some_in kept.0 (state_at m height) kept.1 }
 
 has_base : (branch : Keeping) (m : MachineState) (from : Option ℕ) → StandsFor branch m → IfSome from (IsHeld branch) → IfSome from (HasHeight m)
 has_base branch m None stands held = tt

@@ -78,10 +78,10 @@ get_more (x ∷ xs) ys (suc n) b is some = get_more xs ys n b is some
 pub state_stays : (m n : MachineState) (block : BlockFrame) (height : ℕ) → connect m block ≡ Ok n → HasHeight m height → state_at (with_block m block) height ≡ state_at m height
 state_stays m n block height is has =
     let at : ℕ = height - (m.start.first - 1) in
-    ap (λ (l : List State). slice_get l at) (history_next m block n is) ∙ get_more (history m) (tip (with_block m block) ∷ []) at (state_at m height) refl has
+    ap (λ (l : List State). slice_get l at) (history_next m block n is) ∙ get_more (history m) (tip (with_block m block) ∷ []) at (state_at m height) refl has.state
 
 has_stays : (m n : MachineState) (block : BlockFrame) (height : ℕ) → connect m block ≡ Ok n → HasHeight m height → HasHeight (with_block m block) height
-has_stays m n block height is has = ap (λ (s : Option State). is_some s) (state_stays m n block height is has) ∙ has
+has_stays m n block height is has = record { first = has.first; state = ap (λ (s : Option State). is_some s) (state_stays m n block height is has) ∙ has.state }
 
 base_stays : (m n : MachineState) (block : BlockFrame) (base : Option ℕ) → connect m block ≡ Ok n → IfSome base (HasHeight m) → IfSome base (HasHeight (with_block m block)) × (rows_at (with_block m block) base ≡ rows_at m base)
 base_stays m n block None is has = (tt, refl)
@@ -102,6 +102,14 @@ pub changes_stay : (m n : MachineState) (block : BlockFrame) (kept : List (Heigh
 changes_stay m n block kept is are pair inside = change_stays m n block pair.0 pair.1 is (are pair inside)
 
 -- other pins
+has_apart : (m : MachineState) (pins : Pins) (height : ℕ) → HasHeight m height → HasHeight (record m { pins = pins }) height
+unfolding history
+has_apart m pins height has = record { first = has.first; state = has.state }
+
+base_apart : (m : MachineState) (pins : Pins) (base : Option ℕ) → IfSome base (HasHeight m) → IfSome base (HasHeight (record m { pins = pins }))
+base_apart m pins None has = tt
+base_apart m pins (Some height) has = has_apart m pins height has
+
 pub changes_apart : (m : MachineState) (pins : Pins) (kept : List (Heights × ListChange)) → AreChanges m kept → AreChanges (record m { pins = pins }) kept
 unfolding history
-changes_apart m pins kept are pair inside = let was = are pair inside in record { base = was.base; target = was.target; is = was.is }
+changes_apart m pins kept are pair inside = let was = are pair inside in record { base = base_apart m pins pair.0.base was.base; target = has_apart m pins pair.0.target was.target; is = was.is }

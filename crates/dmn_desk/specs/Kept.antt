@@ -1,5 +1,5 @@
 -- What a desk keeps of earlier answers, and when a desk is true to a machine.
-use Rattle.std.specs.Prelude.{◌≡◌, true, IfSome, Contains, is_some, ℕ, Some, List}
+use Rattle.std.specs.Prelude.{◌≡◌, ℕ, ◌-◌, ◌≤◌, true, IfSome, Contains, is_some, Some, List}
 use Rattle.dmn_branch.specs.Asked.{rows_at}
 use Rattle.dmn_branch.specs.Machine.{MachineState, state_at}
 use Rattle.dmn_branch.specs.Stands.{Keeping, StandsFor}
@@ -10,9 +10,10 @@ use Rattle.dmn_desk.specs.declared.changes.Changes.{Changes}
 use Rattle.dmn_desk.specs.declared.changes.Heights.{Heights}
 use Rattle.dmn_desk.specs.declared.desk.Desk.{Desk}
 
--- the machine's branch has this height
-abbrev pub HasHeight : MachineState → ℕ → Type 0
-HasHeight m height = is_some (state_at m height) ≡ true
+-- the height is that before the first block, or one of the blocks of the machine's branch
+pub record HasHeight (m : MachineState) (height : ℕ) : Type 0 where
+  pub first : m.start.first - 1 ≤ height
+  pub state : is_some (state_at m height) ≡ true
 
 -- The machine's branch has both heights, and this is what changes from the list of the base to that of the target. No base is
 -- the empty list.

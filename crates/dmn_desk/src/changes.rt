@@ -1,6 +1,6 @@
 //! What changed between two lists, as it was asked before.
 
-ghost use Rattle.std.specs.Prelude.{◌≡◌, [], IfOk, IfSome};
+ghost use Rattle.std.specs.Prelude.{◌≡◌, ◌+◌, ◌-◌, ◌^◌, [], IfOk, IfSome, min};
 ghost use Rattle.dmn_branch.specs.Machine.{MachineState};
 ghost use Rattle.dmn_branch.specs.Stands.{IsHeld, StandsFor};
 ghost use Rattle.dmn_desk.specs.Kept.{AreChanges, IsChange, StayChanges};
@@ -42,7 +42,8 @@ fn copy_of(alloc: Global, change: &ListChange) -> Result<ListChange, Memory>
 
 impl Changes {
     pub fn new(alloc: Global) -> Result<Changes, Memory>
-        ensures { IfOk result (λ changes. changes.kept.entries ≡ []) }
+        ensures none { IfOk result (λ changes. changes.kept.entries ≡ []) }
+        ensures walks { IfOk result (λ changes. changes.walks ≡ 0) }
     {
         let Some(most) = NonZeroUsize::new(KEPT) else {
             unreachable!()
@@ -69,7 +70,8 @@ impl Changes {
 
     // Keeps a copy of a change, where there is memory for it.
     fn keep(&mut self, alloc: Global, heights: Heights, change: &ListChange)
-        ensures { (m : MachineState) → IsChange m heights change.now → AreChanges m self.old.kept.entries → AreChanges m self.new.kept.entries }
+        ensures stay { (m : MachineState) → IsChange m heights change.now → AreChanges m self.old.kept.entries → AreChanges m self.new.kept.entries }
+        ensures walks { self.new.walks ≡ self.old.walks }
     {
         let Ok(copy) = copy_of(alloc, change) else {
             return;
@@ -88,6 +90,7 @@ impl Changes {
         requires target { IsHeld branch.now heights.target }
         ensures change { (m : MachineState) → StandsFor branch.now m → IfOk result (IsChange m heights) }
         ensures stay { StayChanges branch.now self.old self.new }
+        ensures walks { self.new.walks ≡ min (self.old.walks + 1) (2 ^ 64 - 1) }
     {
         self.walks = self.walks.saturating_add(1);
         let change = walk(alloc, branch, heights)?;

@@ -53,7 +53,8 @@ fn tip_of(branch: &Branch) -> ShortAnswer
 impl Desk {
     /// A desk that keeps nothing, and so is true to every machine.
     pub fn new(alloc: Global) -> Result<Desk, Memory>
-        ensures { IfOk result (λ desk. (m : MachineState) → IsTrueTo desk m) }
+        ensures true_to_each { IfOk result (λ desk. (m : MachineState) → IsTrueTo desk m) }
+        ensures walks { IfOk result (λ desk. desk.changes.walks ≡ 0) }
     {
         Ok(Desk {
             changes: Changes::new(alloc)?,

@@ -1,7 +1,7 @@
 use Rattle.std.proofs.Common.{◌∙◌, List, ℕ, refl, sym, ap}
 use Rattle.std.specs.Prelude.{Ok}
 use Rattle.dmn_desk.specs.declared.request.Request.TheVariants as requests
-use Rattle.dmn_desk.proofs.Commanding.{asked_as, leaves_as, rested}
+use Rattle.dmn_desk.proofs.Commanding.{asked_as, leaves_as, rested, told_answers}
 use Rattle.dmn_desk.proofs.desk.Desk.answer.Goals as goal
 
 pub returns-in-Connect-clause-moments : goal.returns-in-Connect-clause-moments
@@ -29,3 +29,7 @@ returns-in-Release-clause-moments g c = λ m stands. rested _ _ _ c.args.registr
 
 pub returns-in-Tip-clause-moments : goal.returns-in-Tip-clause-moments
 returns-in-Tip-clause-moments g c = λ m stands. rested _ _ _ c.args.registry.now m _ (g.D.Device.past_is_over c.args.disk.now) stands refl
+
+pub returns-in-Tip-clause-answers : goal.returns-in-Tip-clause-answers
+returns-in-Tip-clause-answers g c =
+    told_answers c.args.request.now c.tell_or_memory.result c.args.self.now c.tell_or_memory.new.self c.args.registry.now c.branch-registry.result.now (g.D.Device.disk c.args.disk.now).told c.branch-registry.ensures c.tell_or_memory.ensures.tells c.tell_or_memory.ensures.stay

@@ -5,3 +5,4 @@ pub mod Told
 pub mod History
 pub mod Sound
 pub mod Complete
+pub mod Asked

@@ -2,4 +2,5 @@
 --   Branches  blocks that came as bodies of bytes, and the states that replay has behind them
 --   Sound     what a diff that a client accepted says of its list
 --   Complete  which diffs are accepted
+--   Asked     that those are accepted which a machine answers
 -- What a client holds and how it steps stand in dmn_client, replay in dmn_branch.

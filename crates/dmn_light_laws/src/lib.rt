@@ -3,4 +3,7 @@
 
 mod law;
 
-pub use law::{client_has_replayed_list, client_takes_replayed_list, clients_keep_lists};
+pub use law::{
+    answered_diffs_are_taken, client_has_replayed_list, client_takes_replayed_list,
+    clients_keep_lists,
+};

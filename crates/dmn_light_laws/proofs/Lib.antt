@@ -6,3 +6,4 @@ pub mod History
 pub mod Sound
 pub mod Complete
 pub mod Asked
+pub mod Runs

@@ -3,4 +3,5 @@
 --   Sound     what a diff that a client accepted says of its list
 --   Complete  which diffs are accepted
 --   Asked     that those are accepted which a machine answers
+--   Runs      what the answers of a run say
 -- What a client holds and how it steps stand in dmn_client, replay in dmn_branch.

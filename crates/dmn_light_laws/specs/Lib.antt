@@ -3,3 +3,4 @@ pub mod Branches
 pub mod Sound
 pub mod Complete
 pub mod Asked
+pub mod Runs

@@ -6,12 +6,16 @@ ghost use Rattle.dmn_block.specs.State.{State};
 ghost use Rattle.dmn_branch.specs.Machine.{MachineState};
 ghost use Rattle.dmn_bytes.specs.declared.hash.Hash256.{Hash256};
 ghost use Rattle.dmn_bytes.specs.Law.{IsBytes};
+ghost use Rattle.dmn_client.specs.declared.client.Applied.{Applied};
 ghost use Rattle.dmn_client.specs.Step.{ClientState, client_step, new_client};
 ghost use Rattle.dmn_diff.specs.declared.diff.Diff.{Diff};
+ghost use Rattle.dmn_frames.specs.Frames.{Frame};
+ghost use Rattle.dmn_light.specs.declared.answer.Answer.{Answer};
 ghost use Rattle.dmn_rows.specs.declared.start.StartRecord.{StartRecord};
 ghost use Rattle.dmn_sml.specs.declared.entry.SmlEntry.{SmlEntry};
 ghost use Rattle.dmn_light_laws.specs.Asked.{IsTakenAsAsked};
 ghost use Rattle.dmn_light_laws.specs.Complete.{IsCompleteBehind};
+ghost use Rattle.dmn_light_laws.specs.Runs.{IsSoundRun};
 ghost use Rattle.dmn_light_laws.specs.Sound.{IsSoundBehind, KeepsList};
 
 /// The list of a client after an accepted diff is the simplified list of the rows that replay has behind the block that
@@ -37,4 +41,11 @@ pub fn answered_diffs_are_taken()
 pub fn clients_keep_lists()
     ensures first { KeepsList new_client }
     ensures next { (old new : ClientState) (text : List ℕ) → IsBytes text → KeepsList old → client_step old text ≡ Ok new → KeepsList new }
+{}
+
+/// In a run of frames: an answer to a diff that tells of a block which replay accepted, of which the client has the header,
+/// tells of the list of the rows that replay has behind that block; or a collision or a digest of zeros is among what was
+/// hashed.
+pub fn runs_tell_of_replay()
+    ensures { (start : StartRecord) (blocks : List BlockFrame) (block : BlockFrame) (state : State) (frames : List Frame) (answers : List Answer) (c : ClientState) (text : List ℕ) (said : Applied) (n : ClientState) → IsSoundRun start blocks block state frames answers c text said n }
 {}

@@ -5,5 +5,5 @@ mod law;
 
 pub use law::{
     answered_diffs_are_taken, client_has_replayed_list, client_takes_replayed_list,
-    clients_keep_lists,
+    clients_keep_lists, runs_tell_of_replay,
 };

@@ -1,12 +1,10 @@
 -- The end of a head, in bytes that are taken one piece after another.
-use Rattle.std.proofs.Common.{◌≡◌, ℕ, ◌+◌, ◌-◌, ◌<◌, ◌≤◌, false, true, List, [], ◌++◌, length, take, drop, refl, sym, ap, ◌∙◌, arith, get_or, inl, inr, Some, None, Option}
-use Rattle.std.specs.Prelude.{◌⊎◌}
+use Rattle.std.proofs.Common.{◌≡◌, ℕ, ◌+◌, ◌-◌, ◌<◌, ◌≤◌, List, [], ◌++◌, length, take, drop, refl, sym, ap, ◌∙◌, arith, get_or, inl, inr, Some, None}
 use Rattle.std.proofs.lemmas.Bool.{cases_lt}
-use Rattle.std.proofs.lemmas.List.{get_or-take, length-take, length-drop, length-append, take-append-le, take-take}
+use Rattle.std.proofs.lemmas.List.{get_or-take, length-take, length-drop, take-append-le, take-take}
 use Rattle.dmn_outside.specs.Line.{Talk, Gives}
-use Rattle.dmn_outside.specs.Pieces.{Took}
 use Rattle.dmn_head.proofs.Taking.{FilledSoFar, filled_more}
-use Rattle.dmn_head.specs.Head.{ends_at, NoEnd, EndsFirst, IsCut, head_limit}
+use Rattle.dmn_head.specs.Head.{ends_at, NoEnd, IsCut, head_limit}
 use Rattle.dmn_head.specs.Steps.{FindsFrom, TookHead}
 use Rattle.dmn_head.specs.declared.head.Cut.TheVariants as cuts
 

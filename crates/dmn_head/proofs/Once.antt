@@ -1,12 +1,10 @@
 -- Each head asks for one thing.
-use Rattle.std.proofs.Common.{◌≡◌, ◌≢◌, ◌⊎◌, ℕ, suc, ◌+◌, ◌-◌, ◌<◌, ◌≤◌, ◌^◌, true, false, Bool, List, [], ◌∷◌, ◌++◌, length, take, drop, map, get_or, refl, sym, ap, ◌∙◌, subst, arith, inl, inr, Option, Some, None, Ok, Err, decimal, codes, option_map}
+use Rattle.std.proofs.Common.{◌≡◌, ℕ, suc, ◌+◌, ◌-◌, ◌<◌, ◌≤◌, ◌^◌, true, false, Bool, List, [], ◌∷◌, ◌++◌, length, drop, map, get_or, refl, sym, ap, ◌∙◌, subst, arith, inl, inr, Option, Some, None, codes, option_map}
 use Rattle.std.specs.Prelude.{option_and_then, MatchBool, MatchOption, ◌&&◌, ◌==◌}
-use Rattle.std.specs.Str.{IsAscii}
-use Rattle.std.specs.Str.Parse.{IsNumeral, digits_value}
-use Rattle.std.proofs.lemmas.Bool.{cases_lt, eqb-true}
+use Rattle.std.proofs.lemmas.Bool.{cases_lt}
 use Rattle.std.proofs.lemmas.Fmt.{decimal_injective}
 use Rattle.std.proofs.lemmas.List.{get_or_past}
-use Rattle.hex.specs.Hex.{encode_lower, decode_of, IsBytes}
+use Rattle.hex.specs.Hex.{encode_lower, decode_of}
 use Rattle.hex.proofs.HexLemmas.{decode_of-encode_lower}
 use Rattle.httparse.specs.Grammar.{RequestHead}
 use Rattle.httparse.specs.Spans.{name_and_value}
@@ -23,12 +21,11 @@ use Rattle.dmn_head.specs.declared.target.Target.TheVariants as targets
 use Rattle.dmn_head.specs.declared.plan.Plan.{Plan}
 use Rattle.dmn_head.specs.declared.plan.Plan.TheVariants as plans
 use Rattle.dmn_head.specs.declared.fault.HttpFault.TheVariants as faults
-use Rattle.dmn_head.specs.Head.{ends_at, NoEnd, EndsFirst, IsCut, head_limit}
-use Rattle.dmn_head.specs.Routes.{Routed}
+use Rattle.dmn_head.specs.Head.{ends_at, EndsFirst, IsCut}
 use Rattle.dmn_head.proofs.Parts.{routed_once}
 use Rattle.dmn_head.specs.Values.{NumberIs, HashIs, NoSlash, CutAtSlash}
-use Rattle.dmn_head.specs.Fields.{values_of, SizeIs, body_limit}
-use Rattle.dmn_head.specs.Wants.{ReadsPath, both, asked, sized, most8, most16, most32, is_block, method_of, BodyPlan, TargetPlan, MethodPlan, RoutePlan, FieldsPlan, HeadPlan, IsHead}
+use Rattle.dmn_head.specs.Fields.{values_of, SizeIs}
+use Rattle.dmn_head.specs.Wants.{ReadsPath, both, asked, sized, most8, most16, most32, is_block, BodyPlan, MethodPlan, RoutePlan, FieldsPlan, HeadPlan}
 
 -- ---- where a head ends
 

@@ -1,5 +1,5 @@
 -- The parts of a path are what the router reads.
-use Rattle.std.proofs.Common.{◌≡◌, ◌≢◌, ◌⊎◌, ℕ, zero, suc, ◌+◌, ◌<◌, ◌≤◌, true, false, Bool, List, [], ◌∷◌, ◌++◌, length, drop, cond, get_or, refl, sym, ap, ◌∙◌, subst, arith, inl, inr, Option, Some, None, codes, append_assoc}
+use Rattle.std.proofs.Common.{◌≡◌, ◌⊎◌, ℕ, zero, suc, ◌<◌, true, false, Bool, List, [], ◌∷◌, ◌++◌, length, drop, cond, get_or, refl, sym, ap, ◌∙◌, subst, arith, inl, inr, Option, Some, None, codes}
 use Rattle.std.specs.Prelude.{◌==◌, ◌&&◌, ltb, option_map}
 use Rattle.std.specs.Str.{IsAscii}
 use Rattle.std.proofs.lemmas.Bool.{cases_Bool, and_parts, eqb-true, ltb-true}

@@ -1,12 +1,12 @@
 -- The plan of a head, from what the parser found.
-use Rattle.std.proofs.Common.{◌≡◌, ℕ, ◌≤◌, List, [], length, take, drop, map, sym, ap, ◌∙◌, arith, inl, inr, subst}
+use Rattle.std.proofs.Common.{◌≡◌, ℕ, ◌≤◌, List, [], length, take, drop, map, ap, arith, inl, subst}
 use Rattle.std.proofs.lemmas.List.{length-map, length-take, drop_all}
 use Rattle.httparse.specs.Grammar.{RequestHead, ReadsRequest}
 use Rattle.httparse.specs.Spans.{IsRequestAt, span_bytes, header_bytes, name_and_value}
 use Rattle.httparse.specs.declared.spans.HeaderSpan.{HeaderSpan}
 use Rattle.httparse.specs.declared.spans.RequestSpans.{RequestSpans}
 use Rattle.dmn_head.specs.declared.plan.Plan.{Plan}
-use Rattle.dmn_head.specs.Wants.{FieldsPlan, HeadPlan, IsHead}
+use Rattle.dmn_head.specs.Wants.{FieldsPlan, HeadPlan}
 
 few_fields : (head : List ℕ) (headers : List HeaderSpan) (count : ℕ) (h : RequestHead) → length headers ≡ 32 → map (header_bytes head) (take count headers) ≡ map name_and_value h.fields → length h.fields ≤ 32
 few_fields head headers count h room e = omega (arith, ap length e, length-map (take count headers) (header_bytes head), length-map h.fields name_and_value, length-take count headers, room)

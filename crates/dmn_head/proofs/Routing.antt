@@ -1,5 +1,5 @@
 -- Routes that are added one after another.
-use Rattle.std.proofs.Common.{◌≡◌, ℕ, List, [], codes, refl, ap, ◌∙◌, Ok, Err, Result, OnOk}
+use Rattle.std.proofs.Common.{◌≡◌, ℕ, List, [], codes, ap, ◌∙◌, Ok, Err, Result, OnOk}
 use Rattle.matchit.specs.Rows.{RowsOf}
 use Rattle.matchit.specs.Route.{Scan, parse_route}
 use Rattle.matchit.specs.Router.{RouteOf, InsertsRead}

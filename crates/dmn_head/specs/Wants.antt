@@ -1,5 +1,5 @@
 -- What a request's head asks for, by the first check that it fails.
-use Rattle.std.specs.Prelude.{◌≡◌, ◌≢◌, ◌⊎◌, ℕ, ◌≤◌, Bool, true, false, List, [], ◌∷◌, length, drop, map, Option, Some, None, codes, option_map, option_and_then, MatchBool, MatchOption, if◌then◌else◌}
+use Rattle.std.specs.Prelude.{◌≡◌, ◌≢◌, ◌⊎◌, ℕ, ◌≤◌, Bool, true, false, List, [], ◌∷◌, length, drop, map, Option, Some, None, codes, option_map, option_and_then, MatchBool, MatchOption}
 use Rattle.httparse.specs.Grammar.{RequestHead, ReadsRequest}
 use Rattle.httparse.specs.Spans.{name_and_value}
 use Rattle.dmn_bytes.specs.declared.hash.Hash256.{Hash256}
@@ -8,7 +8,6 @@ use Rattle.dmn_desk.specs.declared.request.Request.TheVariants as requests
 use Rattle.dmn_desk.specs.Requests.{IsRequest}
 use Rattle.dmn_head.specs.declared.target.Target.{Target}
 use Rattle.dmn_head.specs.declared.target.Target.TheVariants as targets
-use Rattle.dmn_head.specs.declared.fault.HttpFault.{HttpFault}
 use Rattle.dmn_head.specs.declared.fault.HttpFault.TheVariants as faults
 use Rattle.dmn_head.specs.declared.fields.Size.{Size}
 use Rattle.dmn_head.specs.declared.fields.Size.TheVariants as sizes

@@ -1,6 +1,6 @@
 //! What a request's head asks for.
 
-ghost use Rattle.std.specs.Prelude.{◌≡◌, ◌≢◌, ◌≤◌, List, ℕ, length, map, All, MatchBool};
+ghost use Rattle.std.specs.Prelude.{◌≡◌, ◌≢◌, List, ℕ, length, map, All, MatchBool};
 ghost use Rattle.httparse.specs.Spans.{IsHeaderWithin, header_bytes};
 ghost use Rattle.dmn_head.specs.Fields.{Finds};
 ghost use Rattle.dmn_head.specs.Wants.{BodyPlan, is_block, method_of, TargetPlan, RoutePlan, FieldsPlan, HeadPlan, IsPlan};

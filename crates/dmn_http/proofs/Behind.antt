@@ -1,17 +1,16 @@
 -- What comes behind a request changes nothing of what it asks for.
-use Rattle.std.proofs.Common.{◌≡◌, ◌≢◌, ◌⊎◌, ℕ, ◌+◌, ◌-◌, ◌<◌, ◌≤◌, true, false, Bool, List, ◌++◌, length, take, drop, refl, sym, ap, ◌∙◌, subst, arith, inl, inr}
-use Rattle.std.specs.Prelude.{nat_lt}
+use Rattle.std.proofs.Common.{◌≡◌, ◌≢◌, ℕ, ◌+◌, ◌-◌, ◌≤◌, List, ◌++◌, length, drop, refl, sym, ap, ◌∙◌, subst, arith, inl, inr}
 use Rattle.std.proofs.lemmas.Bool.{cases_lt, le-ltb, lt-ltb}
-use Rattle.std.proofs.lemmas.List.{length-append, length-drop, take-append-le, drop-append-le}
+use Rattle.std.proofs.lemmas.List.{length-append, take-append-le, drop-append-le}
 use Rattle.dmn_desk.specs.declared.kind.Kind.TheVariants as kinds
 use Rattle.dmn_desk.specs.Requests.{request_of}
 use Rattle.dmn_head.specs.declared.head.Cut.{Cut}
 use Rattle.dmn_head.specs.declared.head.Cut.TheVariants as cuts
 use Rattle.dmn_head.specs.declared.plan.Plan.{Plan}
 use Rattle.dmn_head.specs.declared.plan.Plan.TheVariants as plans
-use Rattle.dmn_head.specs.Head.{ends_at, NoEnd, EndsFirst, IsCut, head_limit}
+use Rattle.dmn_head.specs.Head.{ends_at, IsCut}
 use Rattle.dmn_head.specs.Wants.{HeadPlan}
-use Rattle.dmn_http.specs.Exchanges.{Outcome, refuses, leaves, body_asks, planned, Exchanges, Decides}
+use Rattle.dmn_http.specs.Exchanges.{Outcome, leaves, body_asks, planned, Exchanges, Decides}
 use Rattle.dmn_head.proofs.Heading.{ends_at-same}
 use Rattle.dmn_head.proofs.Once.{within}
 use Rattle.dmn_http.proofs.Exchanging.{planned_whole, planned_short}

@@ -1,9 +1,9 @@
 -- What was taken from a line decides what a caller asks for.
-use Rattle.std.proofs.Common.{◌≡◌, ◌≢◌, ◌⊎◌, ℕ, ◌+◌, ◌-◌, ◌<◌, ◌≤◌, true, false, Bool, List, [], ◌++◌, length, take, drop, refl, sym, ap, ◌∙◌, subst, arith, inl, inr, append_assoc, Option, Some, None, Ok, Err, Result}
+use Rattle.std.proofs.Common.{◌≡◌, ◌≢◌, ℕ, ◌+◌, ◌-◌, ◌<◌, ◌≤◌, true, false, List, ◌++◌, length, take, drop, refl, sym, ap, ◌∙◌, subst, arith, inl, inr, Ok, Err, Result}
 use Rattle.std.specs.Prelude.{nat_lt}
 use Rattle.std.proofs.lemmas.Bool.{cases_lt, le-ltb, lt-ltb}
 use Rattle.std.proofs.lemmas.List.{length-append, length-take, length-drop, take-append-le, take-append-drop, drop-drop, drop-take, take-take, take_all, append-nil}
-use Rattle.std.proofs.Math.Seq.{take-append-add, take-length}
+use Rattle.std.proofs.Math.Seq.{take-append-add}
 use Rattle.dmn_outside.specs.declared.line.Failed.{Failed}
 use Rattle.dmn_outside.specs.Line.{Talk}
 use Rattle.dmn_outside.specs.Pieces.{Took}
@@ -21,11 +21,10 @@ use Rattle.dmn_head.specs.declared.fault.HttpFault.TheVariants as faults
 use Rattle.dmn_http.specs.declared.reply.HttpReply.{HttpReply}
 use Rattle.dmn_http.specs.declared.exchange.Exchange.{Exchange}
 use Rattle.dmn_http.specs.declared.exchange.Exchange.TheVariants as exchanges
-use Rattle.dmn_head.specs.Head.{ends_at, EndsFirst, IsCut, head_limit}
 use Rattle.dmn_http.specs.Texts.{reply_text, memory_text}
 use Rattle.dmn_head.specs.Wants.{HeadPlan}
-use Rattle.dmn_http.specs.Exchanges.{Outcome, asks, refuses, leaves, body_asks, planned, Shows, Exchanges, Exchanged, Undecided, ReadsExchange}
-use Rattle.dmn_http.specs.Steps.{ShowsFault, ShowsBody, Asked, BrokeBody, ReadsBehind}
+use Rattle.dmn_http.specs.Exchanges.{Outcome, refuses, leaves, body_asks, planned, Shows, Exchanged, ReadsExchange}
+use Rattle.dmn_http.specs.Steps.{ShowsFault, ShowsBody, Asked, ReadsBehind}
 use Rattle.dmn_head.specs.Steps.{TookHead, LiesWithin}
 use Rattle.dmn_head.proofs.Heading.{ends_at-take}
 

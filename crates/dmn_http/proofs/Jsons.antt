@@ -1,16 +1,15 @@
 -- The texts of JSON bodies.
-use Rattle.std.proofs.Common.{◌≡◌, ℕ, suc, ◌+◌, ◌/◌, ◌%◌, ◌<◌, true, false, Bool, List, [], ◌∷◌, ◌++◌, length, get_or, refl, sym, ap, ◌∙◌, arith, append_assoc, codes, decimal, IfOk, Result, Some, None}
-use Rattle.std.specs.Prelude.{◌&&◌}
-use Rattle.std.specs.List.{list_all, AllPass}
+use Rattle.std.proofs.Common.{◌≡◌, ℕ, suc, ◌/◌, ◌%◌, ◌<◌, true, false, Bool, List, [], ◌∷◌, ◌++◌, get_or, refl, ap, ◌∙◌, arith, append_assoc, codes, decimal, IfOk, Result, Some, None}
+use Rattle.std.specs.List.{list_all}
 use Rattle.std.proofs.lemmas.Result.{IfOk-weaker}
 use Rattle.std.proofs.lemmas.List.Sums.{AllPass-from_list_all}
-use Rattle.hex.specs.Hex.{encode_with, encode_lower, lower_digits, IsBytes}
+use Rattle.hex.specs.Hex.{encode_with, encode_lower, lower_digits}
 use Rattle.serde_json.specs.Data.{Data, number, unsigned, null, string, array, object, member, no_members}
 use Rattle.serde_json.specs.Written.{compact_text, has_float, items_have_float, items_text}
 use Rattle.serde_json.proofs.OnLiterals.{serde_json_on_literals}
 use Rattle.json.specs.Print.{escape}
 use Rattle.dmn_bytes.specs.declared.fault.Memory.{Memory}
-use Rattle.dmn_http.specs.Answered.{not_held_body, not_tip_body, payees_body, quoted_from, refused_body, too_deep_body}
+use Rattle.dmn_http.specs.Answered.{not_held_body, quoted_from, refused_body, too_deep_body}
 use Rattle.dmn_http.specs.Steps.{AllPlain, hash_data, is_plain}
 use Rattle.dmn_bytes.specs.declared.hash.Hash256.{Hash256}
 use Rattle.serde_json.specs.View.{items_of}

@@ -15,7 +15,6 @@ use Rattle.dmn_head.specs.declared.plan.Plan.{Plan}
 use Rattle.dmn_head.specs.declared.plan.Plan.TheVariants as plans
 use Rattle.dmn_head.specs.Head.{IsCut}
 use Rattle.dmn_head.specs.Wants.{HeadPlan}
-use Rattle.dmn_http.specs.declared.reply.HttpReply.{HttpReply}
 use Rattle.dmn_http.specs.declared.exchange.Exchange.{Exchange}
 use Rattle.dmn_http.specs.declared.exchange.Exchange.TheVariants as exchanges
 use Rattle.dmn_http.specs.Texts.{reply_text, fault_text, memory_text}

@@ -1,13 +1,11 @@
 -- What the private functions give.
-use Rattle.std.specs.Prelude.{◌≡◌, ◌⊎◌, ℕ, ◌+◌, ◌-◌, ◌<◌, ◌≤◌, Bool, true, false, not, ◌&&◌, ◌==◌, nat_le, List, [], ◌∷◌, ◌++◌, take, drop, length, Option, Some, None, Result, Ok, Err}
+use Rattle.std.specs.Prelude.{◌≡◌, ◌⊎◌, ℕ, ◌+◌, ◌-◌, ◌<◌, ◌≤◌, Bool, true, false, not, ◌&&◌, ◌==◌, nat_le, List, [], ◌∷◌, ◌++◌, take, drop, length, Result, Ok, Err}
 use Rattle.std.specs.List.{list_all}
 use Rattle.hex.specs.Hex.{encode_lower}
 use Rattle.serde_json.specs.Data.{Data, string}
 use Rattle.dmn_bytes.specs.declared.fault.Memory.{Memory}
 use Rattle.dmn_bytes.specs.declared.hash.Hash256.{Hash256}
-use Rattle.dmn_desk.specs.declared.answer.Answer.{Answer}
 use Rattle.dmn_desk.specs.declared.answer.Answer.TheVariants as answers
-use Rattle.dmn_desk.specs.declared.answer.GrownAnswer.{GrownAnswer}
 use Rattle.dmn_desk.specs.declared.answer.ShortAnswer.{ShortAnswer}
 use Rattle.dmn_desk.specs.declared.kind.Kind.TheVariants as kinds
 use Rattle.dmn_desk.specs.declared.request.Request.{Request}
@@ -23,7 +21,7 @@ use Rattle.dmn_http.specs.declared.body.Taking.{Taking}
 use Rattle.dmn_http.specs.declared.body.Taking.TheVariants as takings
 use Rattle.dmn_http.specs.declared.exchange.Exchange.{Exchange}
 use Rattle.dmn_http.specs.declared.reply.HttpReply.{HttpReply}
-use Rattle.dmn_http.specs.Answered.{grown_text, is_fixed, short_text}
+use Rattle.dmn_http.specs.Answered.{is_fixed, short_text}
 use Rattle.dmn_http.specs.Exchanges.{Shows, body_asks, planned}
 use Rattle.dmn_http.specs.Texts.{reply_text, fault_text, memory_text, text_of}
 

@@ -1,7 +1,6 @@
 //! The body of a request, taken from a line.
 
-ghost use Rattle.std.specs.Prelude.{◌≡◌, ◌+◌, ◌≤◌, true, length, take, IfOk, ℕ, List};
-ghost use Rattle.dmn_desk.specs.declared.limits.TheConstants.{LONGEST_BODY};
+ghost use Rattle.std.specs.Prelude.{◌≡◌, ◌+◌, true, length, take, IfOk, ℕ, List};
 ghost use Rattle.dmn_outside.specs.Counts.{HasCause};
 ghost use Rattle.dmn_outside.specs.Failing.{KeepsSurely};
 ghost use Rattle.dmn_outside.specs.Later.{IsQuiet};

@@ -1,6 +1,6 @@
 //! Replies.
 
-ghost use Rattle.std.specs.Prelude.{◌≡◌, ◌++◌, codes, decimal, IfOk, true, false};
+ghost use Rattle.std.specs.Prelude.{◌≡◌, codes, IfOk, true, false};
 ghost use Rattle.serde_json.specs.Data.{number, unsigned, string, object, member, no_members};
 ghost use Rattle.serde_json.specs.View.{view};
 ghost use Rattle.serde_json.specs.Written.{compact_text, has_float};

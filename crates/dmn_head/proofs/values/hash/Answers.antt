@@ -1,5 +1,5 @@
 use Rattle.hex.proofs.HexLemmas.{decode_sized-encode_lower}
-use Rattle.std.proofs.Common.{◌∙◌, ap, sym, ◌≡◌}
+use Rattle.std.proofs.Common.{◌∙◌, ap, sym}
 use Rattle.hex.specs.Hex.{encode_lower}
 use Rattle.dmn_head.proofs.values.hash.Goals as goal
 

@@ -1,4 +1,4 @@
-use Rattle.std.proofs.Common.{rules, arith, sym, ap, ◌∙◌, ◌≡◌, ◌<◌, ◌^◌, ℕ, Ok, decimal}
+use Rattle.std.proofs.Common.{arith, sym, ap, ◌∙◌, ◌≡◌, Ok, decimal}
 use Rattle.std.proofs.lemmas.Slice.Eq.{bytes_eq-Decides}
 use Rattle.dmn_head.proofs.Numbers.{decimal_is_text, decimal_parses}
 use Rattle.dmn_head.proofs.values.number.Goals as goal

@@ -1,6 +1,4 @@
-use Rattle.std.proofs.Common.{refl, arith, ap, ◌∙◌, ◌≡◌}
-use Rattle.std.proofs.Common.{subst}
-use Rattle.std.specs.String.{string_bytes}
+use Rattle.std.proofs.Common.{refl, arith, ◌∙◌, ◌≡◌}
 use Rattle.hex.specs.Hex.{encode_lower}
 use Rattle.dmn_http.proofs.Jsons.{json_is, not_tip_data, not_tip_text, plain_hex}
 use Rattle.dmn_http.proofs.answer_json.not_tip_json.Goals as goal

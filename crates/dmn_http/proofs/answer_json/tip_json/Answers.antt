@@ -1,4 +1,4 @@
-use Rattle.std.proofs.Common.{refl, arith, ap, ◌∙◌, ◌≡◌}
+use Rattle.std.proofs.Common.{refl, arith, ◌∙◌, ◌≡◌}
 use Rattle.hex.specs.Hex.{encode_lower}
 use Rattle.dmn_http.proofs.Jsons.{json_is, tip_data, tip_text, plain_hex}
 use Rattle.dmn_http.proofs.answer_json.tip_json.Goals as goal

@@ -1,5 +1,3 @@
-use Rattle.std.proofs.Common.{◌∙◌, arith}
-use Rattle.std.proofs.lemmas.List.{length-append}
 use Rattle.dmn_outside.proofs.Passing.{later_then}
 use Rattle.dmn_http.proofs.Writing.{front_first, then_sends, stamps_first, then_stamps, then_surely, surely_first}
 use Rattle.dmn_http.proofs.write.send_both.Goals as goal

@@ -69,10 +69,8 @@ pin_of (requests.Pin height) = 0
 pin_of (requests.Page pin from count) = 0
 pin_of (requests.Release pin) = pin
 
--- The reply to an answer of this request whose length is bounded. Started and NotBuilt answer none of the requests that
--- come so; their reply is that of Memory.
+-- the reply to an answer of this request whose length is bounded
 abbrev pub short_text : Request → ShortAnswer → List ℕ
-short_text request short.Started = memory_text
 short_text request (short.Connected height hash) = text_of 200 true (block_body hash.0 height)
 short_text request (short.Disconnected height hash) = text_of 200 true (block_body hash.0 height)
 short_text request (short.Tip height hash low top) = text_of 200 true (tip_body hash.0 height low top)
@@ -89,7 +87,7 @@ short_text request (short.Refused refusal) = text_of 409 true (refused_body (rul
 short_text request (short.NotTip tip) = text_of 409 true (not_tip_body tip.0)
 short_text request short.AtStart = text_of 409 true (error_body (codes "AtStart"))
 short_text request (short.TooDeep floor) = text_of 409 true (too_deep_body floor)
-short_text request short.NotBuilt = memory_text
+short_text request short.JournalFull = text_of 507 true (error_body (codes "JournalFull"))
 
 -- the reply to an answer that grows: the body of its frame, but for payees
 abbrev pub grown_text : GrownAnswer → List ℕ
@@ -113,8 +111,6 @@ is_fixed (answers.Short (short.Disconnected height hash)) = true
 is_fixed (answers.Short (short.Pinned pin)) = true
 is_fixed (answers.Short short.Released) = true
 is_fixed (answers.Short short.Memory) = true
-is_fixed (answers.Short short.Started) = true
-is_fixed (answers.Short short.NotBuilt) = true
 is_fixed answer = false
 
 -- the answer's reply; or that of Memory, unless the answer's takes none

@@ -137,7 +137,7 @@ fn short_reply(alloc: Global, request: &Request, answer: &ShortAnswer) -> HttpRe
     ensures { ShowsShort request.now answer.now result }
 {
     match answer {
-        ShortAnswer::Started | ShortAnswer::Memory | ShortAnswer::NotBuilt => memory_reply(),
+        ShortAnswer::Memory => memory_reply(),
         ShortAnswer::Connected { height, hash } | ShortAnswer::Disconnected { height, hash } => {
             fixed_reply(block_text(hash, *height))
         }
@@ -160,6 +160,7 @@ fn short_reply(alloc: Global, request: &Request, answer: &ShortAnswer) -> HttpRe
         }
         ShortAnswer::NotTip { tip } => json_reply(409, not_tip_json(alloc, &tip.0)),
         ShortAnswer::AtStart => json_reply(409, error_json(alloc, "AtStart")),
+        ShortAnswer::JournalFull => json_reply(507, error_json(alloc, "JournalFull")),
         ShortAnswer::TooDeep { floor } => json_reply(409, too_deep_json(alloc, *floor)),
     }
 }

@@ -1,6 +1,6 @@
 -- Each text asks for one thing, and has one reply.
 use Rattle.std.proofs.Common.{◌≡◌, ℕ, List, take, drop, sym, ap, ◌∙◌, subst}
-use Rattle.dmn_branch.specs.Machine.{MachineState}
+use Rattle.dmn_registry.specs.Machine.{Machine}
 use Rattle.dmn_head.specs.declared.head.Cut.{Cut}
 use Rattle.dmn_head.specs.declared.head.Cut.TheVariants as cuts
 use Rattle.dmn_head.specs.declared.plan.Plan.{Plan}
@@ -18,8 +18,8 @@ asked_once text a b x y =
     let P : Cut → Type 0 = λ c. Decides c text b in
     decided_once x.cut text a b x.decides (subst P (cut_once text y.cut x.cut y.is_cut x.is_cut) y.decides)
 
-pub one_reply : (m : MachineState) (text a b : List ℕ) (n o : MachineState) → HttpBytes m text a n → HttpBytes m text b o → (a ≡ b) × (n ≡ o)
+pub one_reply : (m : Machine) (text a b : List ℕ) (n o : Machine) → HttpBytes m text a n → HttpBytes m text b o → (a ≡ b) × (n ≡ o)
 one_reply m text a b n o x y =
     let same : x.outcome ≡ y.outcome = asked_once text x.outcome y.outcome x.asked y.asked in
     let both : (a, n) ≡ (b, o) = sym x.reply ∙ ap (replied m) same ∙ y.reply in
-    (ap (λ (p : List ℕ × MachineState). p.0) both, ap (λ (p : List ℕ × MachineState). p.1) both)
+    (ap (λ (p : List ℕ × Machine). p.0) both, ap (λ (p : List ℕ × Machine). p.1) both)

@@ -1,6 +1,6 @@
 -- What a caller is sent: the reply to its bytes.
 use Rattle.std.specs.Prelude.{◌≡◌, ℕ, ◌<◌, List, [], ◌++◌, Result, Ok, Err}
-use Rattle.dmn_branch.specs.Machine.{MachineState}
+use Rattle.dmn_registry.specs.Machine.{Machine}
 use Rattle.dmn_desk.specs.Ask.{ask}
 use Rattle.dmn_outside.specs.Failing.{SpendsRoom}
 use Rattle.dmn_outside.specs.Line.{LineView, Moments, Talk}
@@ -10,13 +10,13 @@ use Rattle.dmn_http.specs.Exchanges.{Outcome, asks, refuses, leaves, Exchanges}
 use Rattle.dmn_http.specs.Texts.{fault_text}
 
 -- the reply to what a caller asks for, and the machine after it
-abbrev pub replied : MachineState → Outcome → List ℕ × MachineState
+abbrev pub replied : Machine → Outcome → List ℕ × Machine
 replied m (asks request) = let next = ask m request in (answer_text request next.0, next.1)
 replied m (refuses fault) = (fault_text fault, m)
 replied m leaves = ([], m)
 
 -- the reply of the machine to all the bytes of a caller, and the machine after it
-pub record HttpBytes (m : MachineState) (text bytes : List ℕ) (n : MachineState) : Type 0 where
+pub record HttpBytes (m : Machine) (text bytes : List ℕ) (n : Machine) : Type 0 where
   pub outcome : Outcome
   pub asked : Exchanges text outcome
   pub reply : replied m outcome ≡ (bytes, n)

@@ -1,7 +1,7 @@
 //! Laws of the definitions.
 
 ghost use Rattle.std.specs.Prelude.{◌≡◌, ◌≢◌, ◌++◌, List, ℕ};
-ghost use Rattle.dmn_branch.specs.Machine.{MachineState};
+ghost use Rattle.dmn_registry.specs.Machine.{Machine};
 ghost use Rattle.dmn_http.specs.Exchanges.{Outcome, Exchanges, leaves};
 ghost use Rattle.dmn_http.specs.Replies.{HttpBytes};
 
@@ -17,5 +17,5 @@ pub fn what_comes_behind_changes_nothing()
 
 /// The bytes of each caller have one reply of a machine, and one machine after it.
 pub fn each_text_has_one_reply()
-    ensures { (m : MachineState) (text a b : List ℕ) (n o : MachineState) → HttpBytes m text a n → HttpBytes m text b o → (a ≡ b) × (n ≡ o) }
+    ensures { (m : Machine) (text a b : List ℕ) (n o : Machine) → HttpBytes m text a n → HttpBytes m text b o → (a ≡ b) × (n ≡ o) }
 {}

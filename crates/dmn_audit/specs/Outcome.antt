@@ -1,5 +1,5 @@
 -- What an audit sends, by its status.
-use Rattle.std.specs.Prelude.{◌≡◌, ◌≢◌, ◌⊎◌, ◌++◌}
+use Rattle.std.specs.Prelude.{◌≡◌, ◌⊎◌, ◌++◌}
 use Rattle.dmn_outside.specs.Disk.{DiskView, IfReads, Told}
 use Rattle.dmn_outside.specs.Failing.{KeepsDisk}
 use Rattle.dmn_outside.specs.Line.{LineView, Talk}

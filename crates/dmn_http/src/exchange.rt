@@ -1,7 +1,7 @@
 //! One request, read from a line.
 
 ghost use Rattle.std.specs.Prelude.{◌≡◌, ◌≤◌, true, length, IfOk};
-ghost use Rattle.dmn_desk.specs.declared.limits.TheConstants.{LONGEST_BODY};
+ghost use Rattle.dmn_frames.specs.declared.limits.TheConstants.{LONGEST_BODY};
 ghost use Rattle.dmn_outside.specs.Counts.{HasCause, Rose};
 ghost use Rattle.dmn_outside.specs.Failing.{KeepsSurely};
 ghost use Rattle.dmn_outside.specs.Later.{IsQuiet};

@@ -24,6 +24,16 @@ const PICKS: [Pick; 5] = [
     Pick::Fill(255),
 ];
 
+/// How a run with a call that goes wrong went.
+#[derive(Drop)]
+pub enum Tried {
+    /// It makes fewer calls.
+    Over,
+    /// As it may.
+    Well,
+    Wrong(Difference),
+}
+
 /// Files that a crash left behind so many answers, and that were judged.
 #[derive(Drop)]
 pub struct Judged {
@@ -227,6 +237,26 @@ impl Run {
         Ok(None)
     }
 
+    // Makes the run with this call going wrong.
+    fn try_call(
+        &self,
+        alloc: Global,
+        image: &Image,
+        each: Each,
+        call: u64,
+        judged: &mut Vec<Judged>,
+    ) -> Result<Tried, Trouble> {
+        let mut station = each.station(alloc, image, self.input.as_slice(), call)?;
+        let status = dmn_main(alloc, &self.words, &mut station);
+        if station.calls() <= call {
+            return Ok(Tried::Over);
+        }
+        match self.judge_station(alloc, &station, status, judged)? {
+            Some(difference) => Ok(Tried::Wrong(difference)),
+            None => Ok(Tried::Well),
+        }
+    }
+
     // Makes the run once for each of its calls, which goes wrong so.
     fn try_each(
         &self,
@@ -237,18 +267,10 @@ impl Run {
         judged: &mut Vec<Judged>,
     ) -> Result<Option<Difference>, Trouble> {
         for call in 0..MOST_CALLS {
-            let mut station = each.station(alloc, image, self.input.as_slice(), call)?;
-            let status = dmn_main(alloc, &self.words, &mut station);
-            if station.calls() <= call {
-                return Ok(None);
-            }
-            if let Some(found) = self.judge_station(alloc, &station, status, judged)? {
-                let came = found.came;
-                return Ok(Some(Difference {
-                    line,
-                    wanted: found.wanted,
-                    came: format!(in alloc; "{came} at call {call}")?,
-                }));
+            match self.try_call(alloc, image, each, call, judged)? {
+                Tried::Over => return Ok(None),
+                Tried::Well => {}
+                Tried::Wrong(found) => return Ok(Some(found.at_call(alloc, line, call)?)),
             }
         }
         Err(Trouble::Line)

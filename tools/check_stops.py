@@ -352,7 +352,7 @@ def main(words):
             try:
                 print("stops: %s: as it is to be (seed %d)" % (check(Program(path, folder), random.Random(told.seed), ends),
                                                                 told.seed))
-            except (Wrong, subprocess.TimeoutExpired) as wrong:
+            except (Wrong, OSError, subprocess.SubprocessError) as wrong:
                 print("stops: WRONG (seed %d): %s" % (told.seed, wrong))
                 return 1
     return 0

@@ -48,7 +48,7 @@ tells_step m block profile formed fault is are fresh tells =
     (λ refusal refused. connect_refuses m block refusal fresh (ap (λ (p : Profile). step_from p (machine.formed m) (tip m) block) (sym is) ∙ ap (λ (f : List Formed). step_from profile f (tip m) block) (sym are) ∙ refused))
 
 -- a state tells its block
-block_kept : (profile : Profile) (formed : List Formed) (state : State) (block : BlockFrame) (after : State) → step_from profile formed state block ≡ Ok after → after.block ≡ Some block
+pub block_kept : (profile : Profile) (formed : List Formed) (state : State) (block : BlockFrame) (after : State) → step_from profile formed state block ≡ Ok after → after.block ≡ Some block
 unfolding step_from closed
 block_kept profile formed state block after is = go (outcome profile formed state block) is
   where

@@ -19,3 +19,4 @@ mod Numbers
 mod Mining
 mod Punishing
 mod Drawing
+mod Blocks

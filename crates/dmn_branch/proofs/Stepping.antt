@@ -62,7 +62,7 @@ none_behind : (a b : Option Refusal) → option_or a b ≡ None → b ≡ None
 none_behind None b e = e
 none_behind (Some refusal) b e = absurd cc
 
-behind : (xs ys : Numbered) → first_broken (unnumbered (xs ++ ys)) ≡ None → first_broken (unnumbered ys) ≡ None
+pub behind : (xs ys : Numbered) → first_broken (unnumbered (xs ++ ys)) ≡ None → first_broken (unnumbered ys) ≡ None
 behind xs ys e = none_behind (first_broken (unnumbered xs)) (first_broken (unnumbered ys)) (sym (first_broken_append xs ys) ∙ e)
 
 coinbase_kept : (block : BlockFrame) (tip : Hash256) (height : ℕ) → broken_rule block tip height ≡ None → first_broken (unnumbered (coinbase_rules (height + 1) block.txs)) ≡ None

@@ -191,6 +191,7 @@ impl Branch {
     pub fn tip(&self) -> Tip
         ensures tip { (m : MachineState) → StandsFor self.now m → result ≡ told m }
         ensures held { (height : ℕ) → result.low ≤ height → height ≤ result.height → IsHeld self.now height }
+        ensures here { IsHeld self.now result.height }
     {
         let last = self.last();
         Tip {

@@ -26,7 +26,9 @@ pub use branch::Branch;
 pub use change::RowChange;
 pub use fault::{DisconnectRefusal, PinFault, PrepareFault};
 pub use held::Prepared;
-pub use law::{bases_are_held, refused_by_the_least_number, taken_back_as_before};
+pub use law::{
+    bases_are_held, blocks_have_coinbases, refused_by_the_least_number, taken_back_as_before,
+};
 pub use limits::MOST_EVENTS;
 pub use listing::Listing;
 pub use tip::Tip;

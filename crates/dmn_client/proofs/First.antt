@@ -27,7 +27,7 @@ pub digests_length : (list : List (List ℕ)) → AllByRecursion HasHashLength (
 digests_length [] = tt
 digests_length (t ∷ list) = (length_dsha t, digests_length list)
 
-ids_siblings_length : (ids : List Hash256) → AllByRecursion HasHashLength ids → AllByRecursion HasHashLength (siblings ids)
+pub ids_siblings_length : (ids : List Hash256) → AllByRecursion HasHashLength ids → AllByRecursion HasHashLength (siblings ids)
 unfolding siblings
 ids_siblings_length ids all = siblings_length (length ids) ids all
 

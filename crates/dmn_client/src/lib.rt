@@ -9,7 +9,7 @@ mod headers;
 mod law;
 mod next;
 
-pub use client::{Applied, Client};
+pub use client::{Applied, Client, count_of};
 pub use fault::ClientFault;
 pub use headers::Header;
 pub use law::{complete_client, list_of_rows, sound_client};

@@ -1,10 +1,1 @@
-pub mod Cutting
-pub mod Feeding
-pub mod Fronts
-pub mod Growing
-pub mod Heading
-pub mod Spending
-pub mod Stamping
-pub mod Standing
-pub mod Telling
-pub mod Turning
+mod Running

@@ -1,9 +1,4 @@
--- What the program sends for what it is given. A reader begins here; the parts are:
---   Frames      request frames, and how a text is cut into them
---   Serving     what may be answered to frames, where want of memory is free; the answer to each frame stands in dmn_desk
---   Outcome     what a run has read and sent, by its status; Codes has the statuses' numbers, Words the command line
---   Laws        each text is cut once, statuses are exact, each front of a run is served, the bytes tell of Memory
---   Stamps      when answers are sent: each behind the moment at which its turn began
---   Room        runs over a line that tells how many bytes more may be sent
---   Machines    which machine the program stands for, and what it answers
---   Steps       what the private parts of a turn do to a line
+-- What the program does. A reader begins here; the parts are:
+--   Words    the command line
+--   Outcome  what a run has read, written and sent, by its words; each command's own definitions stand in its crate (dmn_init,
+--            dmn_feed, dmn_audit, dmn_light), the answers to frames in dmn_desk, the machine in dmn_registry

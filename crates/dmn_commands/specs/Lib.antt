@@ -1,11 +1,3 @@
 pub mod Defs
-pub mod Frames
-pub mod Serving
-pub mod Outcome
-pub mod Codes
 pub mod Words
-pub mod Machines
-pub mod Steps
-pub mod Laws
-pub mod Stamps
-pub mod Room
+pub mod Outcome

@@ -1,76 +1,100 @@
--- What a run over a line that tells its bytes has read and sent, by its status.
-use Rattle.std.specs.Prelude.{◌≡◌, ◌≢◌, ◌⊎◌, ℕ, ◌<◌, List, [], ◌++◌, length, take, drop, Option, None, Some}
-use Rattle.std.specs.List.{All, flat_map}
-use Rattle.dmn_branch.specs.Machine.{MachineState}
-use Rattle.dmn_outside.specs.Line.{Talk}
-use Rattle.dmn_desk.specs.declared.answer.Answer.{Answer}
-use Rattle.dmn_desk.specs.Texts.{Fits, frame_of}
-use Rattle.dmn_commands.specs.declared.status.Status.{Status}
-use Rattle.dmn_commands.specs.declared.status.Status.TheVariants as statuses
-use Rattle.dmn_commands.specs.Frames.{Frame, Begins, frame_at}
-use Rattle.dmn_commands.specs.Serving.{MayAnswer, Serves}
+-- What a run has read, written and sent, by its command. Of a station each command sees what is told of its disk and its line
+-- before and behind the run, and when the run began and ended.
+use Rattle.std.specs.Prelude.{◌≡◌, ◌⊎◌, ℕ, Bool, true, List}
+use Rattle.dmn_outside.specs.Changes.{OnlyReads}
+use Rattle.dmn_outside.specs.Counts.{Rose}
+use Rattle.dmn_outside.specs.Crashes.{IsKnown, LeavesOnly}
+use Rattle.dmn_outside.specs.Disk.{DiskView, IfReads}
+use Rattle.dmn_outside.specs.Line.{LineView}
+use Rattle.dmn_journal.specs.Create.{IsBlank, IsBlankDisk}
+use Rattle.dmn_frames.specs.Frames.{Cuts, Frame}
+use Rattle.dmn_registry.specs.Machine.{Machine, at_rest}
+use Rattle.dmn_registry.specs.Own.{IsOwn}
+use Rattle.dmn_rows.specs.Defs.{IsStartText}
+use Rattle.dmn_rows.specs.declared.start.StartRecord.{StartRecord}
+use Rattle.dmn_init.specs.Init as inits
+use Rattle.dmn_feed.specs.Laws as feed_laws
+use Rattle.dmn_feed.specs.Outcome as feeds
+use Rattle.dmn_feed.specs.Stamps.{SentInTurns}
+use Rattle.dmn_audit.specs.Outcome as audits
+use Rattle.dmn_light.specs.Laws as client_laws
+use Rattle.dmn_light.specs.Outcome as clients
+use Rattle.dmn_status.specs.declared.status.Status.{Status}
+use Rattle.dmn_status.specs.declared.status.Status.TheVariants as statuses
+use Rattle.dmn_commands.specs.declared.command.Command.{Command}
+use Rattle.dmn_commands.specs.declared.command.Command.TheVariants.{Audit, Client, Feed, Init}
 
--- The text begins with these frames, and this is left behind them; from a machine that took nothing on these bytes are
--- their answers, in order, and this is the machine after them. Each answer's length fits its field.
-pub record Answered (text : List ℕ) (frames : List Frame) (left bytes : List ℕ) (machine : Option MachineState) : Type 0 where
-  pub front : Begins text frames left
-  pub answers : List Answer
-  pub serves : Serves None frames answers machine
-  pub fit : All Fits answers
-  pub bytes_are : bytes ≡ flat_map frame_of answers
+-- a run over a station: whether it tells its contents, and their moments; when the run began and ended; the disk and the line
+-- before and behind it
+pub record Run : Type 0 where
+  pub tells : Bool
+  pub stamped : Bool
+  pub started : ℕ
+  pub ended : ℕ
+  pub before : DiskView
+  pub behind : DiskView
+  pub old : LineView
+  pub new : LineView
 
--- all of these bytes were sent, this is still to come, and nothing else changed
-abbrev pub Sent : List ℕ → List ℕ → Talk → Talk → Type 0
-Sent left bytes old new = new ≡ record old { left = left; sent = old.sent ++ bytes }
+-- no count of faults rose
+pub record IsCalm (run : Run) : Type 0 where
+  pub disk : ¬ Rose run.before.faults run.behind.faults
+  pub line : ¬ Rose run.old.faults run.new.faults
 
--- as many frames as one run answers
-abbrev pub most : ℕ
-most = 4294967295
+-- `init`: a registry is made of the start record that is the input.
+pub record RunsInit (status : Status) (run : Run) : Type 0 where
+  pub ends : inits.OfInit status
+  -- what was read and made
+  pub outcome : run.tells ≡ true → inits.Inits status run.before run.behind run.old.talk run.new.talk
+  -- what comes before the first write leaves the files
+  pub unwritten : inits.ComesBefore status → OnlyReads run.before run.behind
+  -- where each image was blank, a crash at any moment leaves a blank one, or one that is own with the input's start record
+  pub moments : IsBlankDisk run.before.told → LeavesOnly run.started run.before run.behind (inits.IsBlankOrMade run.tells run.old.talk.left)
+  -- on a blank disk, with a start record, the end is Done or Memory
+  pub complete : run.tells ≡ true → IfReads run.before.told (λ all. IsBlank all.zeroth) → (start : StartRecord) → IsStartText run.old.talk.left start → IsCalm run → inits.EndsWell status
 
--- ---- a fault
+-- `feed`: frames are answered over the registry of the disk.
+pub record RunsFeed (status : Status) (run : Run) : Type 0 where
+  pub ends : feeds.OfFeed status
+  -- On a disk at rest whose image is own: each answer that was sent is the one that replay of the accepted commands gives, or
+  -- Memory; since each answer's send each image of a crash has its command; and since the start each image is own, with the
+  -- commands of before and then some front of those that were accepted.
+  pub outcome : run.tells ≡ true → (m : Machine) → IsKnown (IsOwn m) run.before.told → feeds.Outcome status run.stamped run.started (at_rest m) run.before run.behind run.old run.new
+  -- Done, CutInput and Enough come only where the text's frames say so
+  pub exact : run.tells ≡ true → (frames : List Frame) (left : List ℕ) → Cuts run.old.talk.left frames left → feed_laws.EndsExactly status frames left
+  -- on a disk at rest whose image is own the run ends as its frames say, or with Memory
+  pub complete : run.tells ≡ true → (m : Machine) → IsKnown (IsOwn m) run.before.told → IsCalm run → (frames : List Frame) (left : List ℕ) → Cuts run.old.talk.left frames left → (status ≡ feed_laws.status_of frames left) ⊎ (status ≡ statuses.Memory)
+  -- NotJournal tells where file 0 departs from a journal image
+  pub departs : feeds.NotJournalTells status run.before.told
+  -- NotJournal and Memory come before anything is taken or sent
+  pub unserved : ¬ feeds.IsRunning status → run.new ≡ run.old
+  -- answers are sent turn by turn, each behind the moment at which its turn began
+  pub in_turns : run.tells ≡ true → run.stamped ≡ true → SentInTurns run.started run.ended run.old run.new
 
--- a fault before the next frame was taken whole: some of its bytes were taken, and nothing more was sent
-pub record BreaksBefore (left part rest : List ℕ) : Type 0 where
-  pub taken : ℕ
-  pub rest_is : rest ≡ drop taken left
-  pub none : part ≡ []
+-- `audit`: the journal is replayed, and what it leads to is sent.
+pub record RunsAudit (status : Status) (run : Run) : Type 0 where
+  pub ends : audits.OfAudit status
+  -- the text of the machine of file 0 was sent, or nothing where that departs from a journal image
+  pub outcome : run.tells ≡ true → audits.SendsAudit status run.before.told run.old.talk run.new.talk
+  -- on a disk at rest whose image is own it is the text of the machine that is recovered from it, and nothing departs
+  pub own : run.tells ≡ true → (m : Machine) → IsKnown (IsOwn m) run.before.told → audits.SendsOwn status m run.old.talk run.new.talk
+  -- and the end is Done or Memory
+  pub complete : (m : Machine) → IsKnown (IsOwn m) run.before.told → IsCalm run → audits.EndsWell status
+  pub disk : OnlyReads run.before run.behind
 
--- a fault within the answer to the next frame, which was taken whole: a front of the answer was sent, less than all of it
-pub record BreaksWithin (left part rest : List ℕ) (m : Option MachineState) : Type 0 where
-  pub frame : Frame
-  pub answer : Answer
-  pub machine : Option MachineState
-  pub front : frame_at left ≡ Some (frame, rest)
-  pub may : MayAnswer m frame answer machine
-  pub count : ℕ
-  pub few : count < length (frame_of answer)
-  pub part_is : part ≡ take count (frame_of answer)
+-- `client`: frames are answered by a light client.
+pub record RunsClient (status : Status) (run : Run) : Type 0 where
+  pub ends : clients.IsEnding status
+  -- each answer that was sent is the client's, or Memory
+  pub outcome : run.tells ≡ true → clients.Outcome status run.old.talk run.new.talk
+  -- Done, CutInput and Enough come only where the text's frames say so, and where no count rose one of them comes
+  pub exact : run.tells ≡ true → (frames : List Frame) (left : List ℕ) → Cuts run.old.talk.left frames left → client_laws.EndsExactly status frames left
+  pub complete : run.tells ≡ true → IsCalm run → (frames : List Frame) (left : List ℕ) → Cuts run.old.talk.left frames left → status ≡ client_laws.ending_of frames left
+  -- no call of the disk is made
+  pub disk : run.behind ≡ run.before
 
--- A run that a fault of this caller's broke off: all frames but at most the last one taken were answered whole, and this
--- part of the last one's answer was sent behind their answers. Nothing else changed.
-pub record BrokeOff (old new : Talk) : Type 0 where
-  pub frames : List Frame
-  pub left : List ℕ
-  pub bytes : List ℕ
-  pub machine : Option MachineState
-  pub answered : Answered old.left frames left bytes machine
-  pub few : length frames < most
-  pub part : List ℕ
-  pub last : BreaksBefore left part new.left ⊎ BreaksWithin left part new.left machine
-  pub own : 0 < new.own
-  pub after : new ≡ record old { left = new.left; sent = old.sent ++ (bytes ++ part); own = new.own }
-
--- ---- by status
-
-abbrev pub Outcome : Status → Talk → Talk → Type 0
--- each byte belongs to a frame, and each frame was answered
-Outcome statuses.Done old new = (frames : List Frame) × (bytes : List ℕ) × (machine : Option MachineState) × Answered old.left frames [] bytes machine × (length frames < most) × Sent [] bytes old new
--- the same, and a part of a frame was left
-Outcome statuses.CutInput old new = (frames : List Frame) × (left bytes : List ℕ) × (machine : Option MachineState) × Answered old.left frames left bytes machine × (length frames < most) × (left ≢ []) × (frame_at left ≡ None) × Sent [] bytes old new
--- the most frames were answered
-Outcome statuses.Enough old new = (frames : List Frame) × (left bytes : List ℕ) × (machine : Option MachineState) × Answered old.left frames left bytes machine × (length frames ≡ most) × Sent left bytes old new
--- a front of the answers was sent
-Outcome statuses.LineFault old new = BrokeOff old new
--- nothing was taken or sent
-Outcome statuses.Words old new = new ≡ old
-Outcome statuses.Memory old new = new ≡ old
+abbrev pub Runs : Command → Status → Run → Type 0
+Runs Init status run = RunsInit status run
+Runs Feed status run = RunsFeed status run
+Runs Audit status run = RunsAudit status run
+Runs Client status run = RunsClient status run

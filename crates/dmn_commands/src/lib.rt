@@ -1,16 +1,8 @@
 //! The commands of the program: what the words ask for, done over a station.
 #![tactic(auto)]
 
-mod body;
-mod feed;
-mod head;
-mod laws;
-mod machine;
-mod status;
+mod command;
 mod top;
 
-pub use laws::{
-    answers_tell_of_memory, each_front_is_served, each_text_is_cut_once, statuses_are_exact,
-};
-pub use status::Status;
+pub use dmn_status::Status;
 pub use top::dmn_main;

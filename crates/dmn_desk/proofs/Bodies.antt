@@ -22,8 +22,8 @@ use Rattle.dmn_bytes.specs.Law.{IsBytes, IsSound, place_of}
 use Rattle.dmn_bytes.specs.Sound.{bind_ok, bind_err, both_sound, byte_sound, hash_sound, number16_sound, number32_sound, ok_is, only_sound, whole_again, whole_within}
 use Rattle.dmn_desk.specs.declared.kind.Kind.{Kind}
 use Rattle.dmn_desk.specs.declared.kind.Kind.TheVariants as kinds
-use Rattle.dmn_desk.specs.declared.limits.TheConstants.{FRONT}
-use Rattle.dmn_desk.specs.declared.reading.Reading.TheVariants.{Front}
+use Rattle.dmn_frames.specs.declared.limits.TheConstants.{FRONT}
+use Rattle.dmn_frames.specs.declared.reading.Reading.TheVariants.{Front}
 use Rattle.dmn_desk.specs.declared.request.Request.{Request}
 use Rattle.dmn_desk.specs.declared.request.Request.TheVariants as requests
 use Rattle.dmn_desk.specs.declared.request.RequestFault.{RequestFault}

@@ -1,6 +1,7 @@
 -- The answer to Diff, and its frame.
-use Rattle.std.proofs.Common.{◌≡◌, ℕ, zero, suc, ◌-◌, ◌<◌, Bool, true, false, cond, not, List, [], ◌∷◌, ◌++◌, length, inl, inr, refl, sym, ap, ◌∙◌, subst, arith}
-use Rattle.std.specs.Prelude.{Option, None, Some, IfSome, slice_get}
+use Rattle.std.proofs.Common.{◌≡◌, ℕ, ◌-◌, Bool, true, false, not, List, [], ◌∷◌, ◌++◌, length, inl, inr, refl, sym, ap, ◌∙◌, subst, arith}
+use Rattle.std.specs.Prelude.{Option, None, Some, IfSome, is_some}
+use Rattle.std.proofs.lemmas.Option.{slice_get_cases}
 use Rattle.std.proofs.Math.Bool.{beq}
 use Rattle.std.proofs.lemmas.Bool.{eq-eqb}
 use Rattle.std.proofs.lemmas.Slice.Eq.{bytes_eq-Decides}
@@ -15,7 +16,8 @@ use Rattle.dmn_branch.specs.Stands.{IsHeld, Kept, Keeping, StandsFor, low_kept}
 use Rattle.dmn_branch.proofs.Standing.{held_stands}
 use Rattle.dmn_branch.specs.Machine.{MachineState, rows_of, state_at}
 use Rattle.dmn_bytes.specs.declared.hash.Hash256.{Hash256}
-use Rattle.dmn_diff.specs.Change.{fresh, gone, same_entry}
+use Rattle.dmn_diff.specs.Change.{change_of, fresh, gone, same_entry}
+use Rattle.dmn_diff.specs.declared.change.ListChange.{ListChange}
 use Rattle.dmn_diff.specs.Rows.{is_row_told}
 use Rattle.dmn_diff.proofs.Rows.{rows_deleted, rows_told}
 use Rattle.dmn_rows.specs.declared.row.MnRow.{MnRow}
@@ -25,11 +27,12 @@ use Rattle.dmn_rows.proofs.Lookups.{IsAscending-plain}
 use Rattle.dmn_sml.specs.declared.entry.SmlEntry.{SmlEntry}
 use Rattle.dmn_sml.specs.Defs.{simple}
 use Rattle.dmn_sml.specs.Entry.{entry_of}
-use Rattle.dmn_desk.specs.declared.answer.Answer.TheVariants.{Grown, Short}
+use Rattle.dmn_desk.specs.declared.answer.Answer.TheVariants.{Grown}
 use Rattle.dmn_desk.specs.declared.answer.GrownAnswer.TheVariants as grown
-use Rattle.dmn_desk.specs.declared.answer.ShortAnswer.TheVariants as short
+use Rattle.dmn_desk.specs.declared.changes.Heights.{Heights}
 use Rattle.dmn_desk.specs.Ask.{diff_by, diff_to, entries_told, of_state}
 use Rattle.dmn_desk.specs.Framed.{framed}
+use Rattle.dmn_desk.specs.Kept.{HasHeight, IsChange}
 
 -- a frame whose length is known before its body is sent
 pub text_framed : (n : ℕ) (text : List ℕ) → length text ≡ n → (0 ∷ []) ++ (to_le_bytes w32 n ++ text) ≡ framed 0 text
@@ -37,11 +40,6 @@ unfolding framed
 text_framed n text is = ap (λ (k : ℕ). 0 ∷ (to_le_bytes w32 k ++ text)) (sym is)
 
 -- ---- which entries are told
-
--- one row more, which is told or not
-pub told_more : (base : List MnRow) (made : List SmlEntry) (row : MnRow) (rows : List MnRow) (b : Bool) → is_row_told base row ≡ b → made ++ entries_told base (row ∷ rows) ≡ made ++ cond b (entry_of row ∷ entries_told base rows) (entries_told base rows)
-told_more base made row rows true is = rw is refl
-told_more base made row rows false is = rw is refl
 
 -- rows as they are seen at a height have the same entries
 told_seen : (base : List MnRow) (h : ℕ) (row : MnRow) (rows : List MnRow) (b : Bool) → is_row_told base row ≡ b → entries_told base (plain_rows h rows) ≡ entries_told base rows → entries_told base (plain_rows h (row ∷ rows)) ≡ entries_told base (row ∷ rows)
@@ -91,32 +89,57 @@ told_left base (row ∷ target) put (inr shown) =
 
 -- ---- by a branch
 
-there : {X : Type 0} → (xs : List X) (n : ℕ) → n < length xs → (x : X) × (slice_get xs n ≡ Some x)
-there [] n lt = absurd (omega (arith, lt))
-there (x ∷ xs) zero lt = (x, refl)
-there (x ∷ xs) (suc n) lt = there xs n (omega (arith, lt))
+-- what is kept of a height that is held stands for the state of that height
+held_kept : (branch : Keeping) (m : MachineState) (height : ℕ) → StandsFor branch m → IsHeld branch height → (kept : Kept) × StandsIn kept (state_at m height)
+held_kept branch m height stands held =
+    elim ((slice_get_cases branch.lists (height - low_kept branch)).1) [
+      | inl found ↦ (found.0, held_stands branch m height found.0 stands held.low found.2)
+      | inr past ↦ absurd (omega (arith, held.low, held.high, past.0))
+    ]
 
 ascends_in : (kept : Kept) (found : Option State) → StandsIn kept found → IsAscending (rows_of found)
 ascends_in kept None at = absurd at
 ascends_in kept (Some state) at = subst IsAscending at.rows (IsAscending-plain state.height kept.rows at.whole.rows)
 
+some_in : (kept : Kept) (found : Option State) → StandsIn kept found → is_some found ≡ true
+some_in kept None at = absurd at
+some_in kept (Some state) at = refl
+
 -- the rows of a height that is held ascend
-pub rows_ascend : (branch : Keeping) (m : MachineState) (from : Option ℕ) → StandsFor branch m → IfSome from (IsHeld branch) → IsAscending (rows_at m from)
+rows_ascend : (branch : Keeping) (m : MachineState) (from : Option ℕ) → StandsFor branch m → IfSome from (IsHeld branch) → IsAscending (rows_at m from)
 rows_ascend branch m None stands held = tt
 rows_ascend branch m (Some height) stands held =
-    let kept = there branch.lists (height - low_kept branch) (omega (arith, held.low, held.high)) in
-    ascends_in kept.0 (state_at m height) (held_stands branch m height kept.0 stands held.low kept.1)
+    let kept = held_kept branch m height stands held in
+    ascends_in kept.0 (state_at m height) kept.1
 
-pub diff_none : (m : MachineState) (base : Hash256) (rows : List MnRow) (found : Option State) → IsToldOf coinbase_of None found → Short short.NoSuch ≡ of_state m (diff_to base rows) found
-diff_none m base rows None told = absurd told
-diff_none m base rows (Some state) told = ap (diff_by base rows state) told
+has_height : (branch : Keeping) (m : MachineState) (height : ℕ) → StandsFor branch m → IsHeld branch height → HasHeight m height
+has_height branch m height stands held = let kept = held_kept branch m height stands held in some_in kept.0 (state_at m height) kept.1
 
-pub diff_made : (m : MachineState) (base : Hash256) (rows : List MnRow) (height : ℕ) (found : Option State) (lent : Lent) (part : CoinbasePart) (deleted : List Hash256) (put : List MnRow) (entries : List SmlEntry)
-    → IsAscending rows → Lends lent found → IsToldOf coinbase_of (Some part) found → deleted ≡ hashes_gone rows (rows_of found) → LeavesOut rows (rows_of found) (plain_rows height put) → entries ≡ entries_told rows put
-    → Grown (grown.Diff (record { base = base; block = lent.hash; branch = part.branch; coinbase = part.tx; deleted = deleted; entries = entries })) ≡ of_state m (diff_to base rows) found
-diff_made m base rows height None lent part deleted put entries ascends lends told gone_is left made = absurd lends
-diff_made m base rows height (Some state) lent part deleted put entries ascends lends told gone_is left made =
-    let fresh_is : entries ≡ fresh (simple rows) (simple state.rows) =
-    made ∙ sym (entries_seen rows height put) ∙ told_left rows state.rows (plain_rows height put) left ∙ sym (rows_told rows state.rows ascends) in
-    let deleted_is : deleted ≡ gone (simple rows) (simple state.rows) = gone_is ∙ sym (rows_deleted rows state.rows) in
-    rw (lends.hash, fresh_is, deleted_is) (ap (diff_by base rows state) told)
+has_base : (branch : Keeping) (m : MachineState) (from : Option ℕ) → StandsFor branch m → IfSome from (IsHeld branch) → IfSome from (HasHeight m)
+has_base branch m None stands held = tt
+has_base branch m (Some height) stands held = has_height branch m height stands held
+
+pub change_made : (branch : Keeping) (m : MachineState) (heights : Heights) (deleted : List Hash256) (put : List MnRow) (entries : List SmlEntry) → StandsFor branch m → IfSome heights.base (IsHeld branch) → IsHeld branch heights.target
+    → deleted ≡ hashes_gone (rows_at m heights.base) (rows_at m (Some heights.target)) → LeavesOut (rows_at m heights.base) (rows_at m (Some heights.target)) (plain_rows heights.target put) → entries ≡ entries_told (rows_at m heights.base) put
+    → IsChange m heights (record { deleted = deleted; entries = entries })
+change_made branch m heights deleted put entries stands base target gone_is left made =
+    let rows : List MnRow = rows_at m heights.base in
+    let found : List MnRow = rows_at m (Some heights.target) in
+    let fresh_is : entries ≡ fresh (simple rows) (simple found) =
+    made ∙ sym (entries_seen rows heights.target put) ∙ told_left rows found (plain_rows heights.target put) left ∙ sym (rows_told rows found (rows_ascend branch m heights.base stands base)) in
+    let deleted_is : deleted ≡ gone (simple rows) (simple found) = gone_is ∙ sym (rows_deleted rows found) in
+    record {
+      base = has_base branch m heights.base stands base;
+      target = has_height branch m heights.target stands target;
+      is = rw (fresh_is, deleted_is) refl;
+    }
+
+diff_of_state : (m : MachineState) (base : Hash256) (rows : List MnRow) (found : Option State) (lent : Lent) (part : CoinbasePart) (change : ListChange)
+    → change ≡ change_of (simple rows) (simple (rows_of found)) → Lends lent found → IsToldOf coinbase_of (Some part) found
+    → Grown (grown.Diff (record { base = base; block = lent.hash; branch = part.branch; coinbase = part.tx; deleted = change.deleted; entries = change.entries })) ≡ of_state m (diff_to base rows) found
+diff_of_state m base rows None lent part change is lends told = absurd lends
+diff_of_state m base rows (Some state) lent part change is lends told = rw (lends.hash, is) (ap (diff_by base rows state) told)
+
+pub diff_made : (m : MachineState) (base : Hash256) (heights : Heights) (lent : Lent) (part : CoinbasePart) (change : ListChange) → IsChange m heights change → Lends lent (state_at m heights.target) → IsToldOf coinbase_of (Some part) (state_at m heights.target)
+    → Grown (grown.Diff (record { base = base; block = lent.hash; branch = part.branch; coinbase = part.tx; deleted = change.deleted; entries = change.entries })) ≡ of_state m (diff_to base (rows_at m heights.base)) (state_at m heights.target)
+diff_made m base heights lent part change is lends told = diff_of_state m base (rows_at m heights.base) (state_at m heights.target) lent part change is.is lends told

@@ -10,7 +10,7 @@ use Rattle.dmn_desk.specs.declared.answer.Answer.TheVariants.{Short}
 use Rattle.dmn_desk.specs.declared.answer.ShortAnswer.TheVariants as short
 use Rattle.dmn_desk.specs.Ask.{at_height, of_state}
 
-held_is : (m : MachineState) (tip : Tip) (height : ℕ) (held : Bool) → tip ≡ told m → held ≡ (nat_le tip.low height && nat_le height tip.height) → is_held m height ≡ held
+pub held_is : (m : MachineState) (tip : Tip) (height : ℕ) (held : Bool) → tip ≡ told m → held ≡ (nat_le tip.low height && nat_le height tip.height) → is_held m height ≡ held
 held_is m tip height held is test = rw (test, is) refl
 
 pub told_held : (m : MachineState) (tip : Tip) (height : ℕ) (tell : State → Answer) → tip ≡ told m → true ≡ (nat_le tip.low height && nat_le height tip.height) → at_height m height tell ≡ of_state m tell (state_at m height)

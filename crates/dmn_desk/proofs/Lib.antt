@@ -3,7 +3,9 @@ mod Heights
 mod Hashing
 mod Sending
 mod Paging
+mod Keeping
 mod Diffing
+mod Commanding
 mod Rowing
 pub mod Bodies
 pub mod Asking

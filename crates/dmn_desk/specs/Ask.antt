@@ -1,7 +1,7 @@
--- The answer of a machine to each request and to each frame, in the order of its checks, and the machine after it. Each is
--- by what replay of the accepted commands holds (dmn_branch/specs/Machine.antt). Before its start record was taken there is
--- no machine.
-use Rattle.std.specs.Prelude.{ℕ, ◌+◌, ◌==◌, Bool, false, List, length, map, filter, nat_lt, if◌then◌else◌, is_some, Option, None, Some, Result, Ok, Err}
+-- The answer of a machine to each request and to each frame, in the order of its checks, and the machine after it. The machine
+-- is that of a registry (dmn_registry/specs/Machine.antt); what it holds is the machine of blocks that its commands lead to
+-- (dmn_branch/specs/Machine.antt), by which each question is answered.
+use Rattle.std.specs.Prelude.{ℕ, ◌+◌, Bool, false, List, length, map, filter, nat_lt, if◌then◌else◌, is_some, Option, None, Some, Result, Ok, Err}
 use Rattle.dmn_block.specs.declared.frame.BlockFrame.{BlockFrame}
 use Rattle.dmn_block.specs.declared.refusal.Refusal.{Refusal}
 use Rattle.dmn_block.specs.State.{State}
@@ -11,11 +11,10 @@ use Rattle.dmn_branch.specs.Asked.{members_in, payees_of, quorums_in, row_of, ro
 use Rattle.dmn_branch.specs.Coinbases.{coinbase_of}
 use Rattle.dmn_branch.specs.declared.coinbase.CoinbasePart.{CoinbasePart}
 use Rattle.dmn_branch.specs.Machine as machine
-use Rattle.dmn_branch.specs.Machine.{MachineState, begun, height_of, is_held, low, state_at, tip, top}
+use Rattle.dmn_branch.specs.Machine.{MachineState, height_of, is_held, low, state_at, tip, top}
 use Rattle.dmn_branch.specs.Pins.{Pinned, free_number, page_of, pin_of}
 use Rattle.dmn_bytes.specs.declared.fault.Departure.{Departure}
 use Rattle.dmn_bytes.specs.declared.hash.Hash256.{Hash256}
-use Rattle.dmn_bytes.specs.Format.{whole}
 use Rattle.dmn_bytes.specs.Law.{place_of}
 use Rattle.dmn_bytes.specs.Points.{is_zero}
 use Rattle.dmn_diff.specs.Change.{change_of}
@@ -23,8 +22,8 @@ use Rattle.dmn_diff.specs.Rows.{is_row_told}
 use Rattle.dmn_quorums.specs.Duty.{params_of}
 use Rattle.dmn_rows.specs.declared.profile.QuorumParams.{QuorumParams}
 use Rattle.dmn_rows.specs.declared.row.MnRow.{MnRow}
-use Rattle.dmn_rows.specs.declared.start.StartRecord.{StartRecord}
-use Rattle.dmn_rows.specs.Start.{start_record}
+use Rattle.dmn_registry.specs.Machine as registry
+use Rattle.dmn_registry.specs.Machine.{Denial, Machine, by_rules, full, state_of}
 use Rattle.dmn_sml.specs.declared.entry.SmlEntry.{SmlEntry}
 use Rattle.dmn_sml.specs.Defs.{root_of, simple}
 use Rattle.dmn_sml.specs.Entry.{entry_of}
@@ -34,7 +33,7 @@ use Rattle.dmn_desk.specs.declared.answer.GrownAnswer.TheVariants as grown
 use Rattle.dmn_desk.specs.declared.answer.ShortAnswer.{ShortAnswer}
 use Rattle.dmn_desk.specs.declared.answer.ShortAnswer.TheVariants as short
 use Rattle.dmn_desk.specs.declared.kind.Kind.{Kind}
-use Rattle.dmn_desk.specs.declared.limits.TheConstants.{HEAD, LONGEST_BODY, START}
+use Rattle.dmn_frames.specs.declared.limits.TheConstants.{HEAD, LONGEST_BODY}
 use Rattle.dmn_desk.specs.declared.request.Request.{Request}
 use Rattle.dmn_desk.specs.declared.request.Request.TheVariants as requests
 use Rattle.dmn_desk.specs.Kinds.{kind_of}
@@ -90,35 +89,51 @@ members_at m kind height = members_by m kind height (params_of (machine.profile 
 abbrev pub quorums_at : MachineState → ℕ → Answer
 quorums_at m height = at_height m height (λ state. Grown (grown.Quorums (quorums_in m state)))
 
-abbrev pub connected : MachineState → Result MachineState Refusal → ShortAnswer × MachineState
-connected m (Ok next) = (short.Connected (tip next).height (tip next).hash, next)
-connected m (Err refusal) = (short.Refused refusal, m)
+-- ---- commands
+
+-- why a block is not accepted: by the rules first, and then by the journal's limit
+abbrev pub not_connected : Denial Refusal → ShortAnswer
+not_connected (by_rules refusal) = short.Refused refusal
+not_connected full = short.JournalFull
+
+abbrev pub connected : Machine → Result Machine (Denial Refusal) → ShortAnswer × Machine
+connected m (Ok next) = (short.Connected (tip (state_of next)).height (tip (state_of next)).hash, next)
+connected m (Err denial) = (not_connected denial, m)
 
 -- a block is added, or refused
-unfoldable pub connect : MachineState → BlockFrame → ShortAnswer × MachineState
-connect m block = connected m (machine.connect m block)
+unfoldable pub connect : Machine → BlockFrame → List ℕ → ShortAnswer × Machine
+connect m block body = connected m (registry.connect m block body)
 
 abbrev pub not_back : DisconnectRefusal → ShortAnswer
 not_back (refusals.NotTip tip) = short.NotTip tip
 not_back refusals.AtStart = short.AtStart
 not_back (refusals.TooDeep floor) = short.TooDeep floor
 
-abbrev pub disconnected : MachineState → Result MachineState DisconnectRefusal → ShortAnswer × MachineState
-disconnected m (Ok next) = (short.Disconnected (tip next).height (tip next).hash, next)
-disconnected m (Err refusal) = (not_back refusal, m)
+abbrev pub not_disconnected : Denial DisconnectRefusal → ShortAnswer
+not_disconnected (by_rules refusal) = not_back refusal
+not_disconnected full = short.JournalFull
+
+abbrev pub disconnected : Machine → Result Machine (Denial DisconnectRefusal) → ShortAnswer × Machine
+disconnected m (Ok next) = (short.Disconnected (tip (state_of next)).height (tip (state_of next)).hash, next)
+disconnected m (Err denial) = (not_disconnected denial, m)
 
 -- the last block is taken back, or not
-unfoldable pub disconnect : MachineState → Hash256 → ShortAnswer × MachineState
-disconnect m hash = disconnected m (machine.disconnect m hash)
+unfoldable pub disconnect : Machine → Hash256 → ShortAnswer × Machine
+disconnect m hash = disconnected m (registry.disconnect m hash)
+
+-- ---- pins
 
 -- a pin more, where there is a number for it
-abbrev pub pinned_by : MachineState → ℕ → Option ℕ → ShortAnswer × MachineState
+abbrev pub pinned_by : Machine → ℕ → Option ℕ → ShortAnswer × Machine
 pinned_by m height None = (short.PinsFull, m)
-pinned_by m height (Some number) = (short.Pinned number, machine.pinned m number height)
+pinned_by m height (Some number) = (short.Pinned number, registry.pinned m number height)
 
 -- the height is held, and then the list of it is pinned
-unfoldable pub pin : MachineState → ℕ → ShortAnswer × MachineState
-pin m height = if is_held m height then pinned_by m height (free_number m.pins) else (short.NotHeld (low m) (tip m).height, m)
+unfoldable pub pin : Machine → ℕ → ShortAnswer × Machine
+pin m height =
+    if is_held (state_of m) height
+    then pinned_by m height (free_number m.pins)
+    else (short.NotHeld (low (state_of m)) (tip (state_of m)).height, m)
 
 abbrev pub page_by : ℕ → ℕ → Option Pinned → Answer
 page_by from count None = Short short.PinUnknown
@@ -128,10 +143,10 @@ page_by from count (Some pin) = Grown (grown.Page (simple (page_of from count pi
 abbrev pub page : MachineState → ℕ → ℕ → ℕ → Answer
 page m number from count = page_by from count (pin_of m.pins number)
 
-unfoldable pub release : MachineState → ℕ → ShortAnswer × MachineState
-release m number = if is_some (pin_of m.pins number) then (short.Released, machine.released m number) else (short.PinUnknown, m)
+unfoldable pub release : Machine → ℕ → ShortAnswer × Machine
+release m number = if is_some (pin_of m.pins number) then (short.Released, registry.released m number) else (short.PinUnknown, m)
 
-abbrev pub shortly : ShortAnswer × MachineState → Answer × MachineState
+abbrev pub shortly : ShortAnswer × Machine → Answer × Machine
 shortly next = (Short next.0, next.1)
 
 -- ---- what changed between two blocks
@@ -170,20 +185,22 @@ diff_since m base block (Some from) = diff_until m base (Some from) (height_of m
 unfoldable pub diff : MachineState → Hash256 → Hash256 → Answer
 diff m base block = if is_zero base.0 then diff_until m base None (height_of m block) else diff_since m base block (height_of m base)
 
+-- ---- all requests
+
 -- the answer to a request
-unfoldable pub ask : MachineState → Request → Answer × MachineState
-ask m (requests.Connect block body) = shortly (connect m block)
+unfoldable pub ask : Machine → Request → Answer × Machine
+ask m (requests.Connect block body) = shortly (connect m block body)
 ask m (requests.Disconnect hash) = shortly (disconnect m hash)
-ask m requests.Tip = (Short (tip_of m), m)
-ask m (requests.List height) = (list_at m height, m)
-ask m (requests.Row height hash) = (row_at m height hash, m)
-ask m (requests.Payees height count) = (payees_at m height count, m)
-ask m (requests.Members kind base) = (members_at m kind base, m)
-ask m (requests.Quorums height) = (quorums_at m height, m)
+ask m requests.Tip = (Short (tip_of (state_of m)), m)
+ask m (requests.List height) = (list_at (state_of m) height, m)
+ask m (requests.Row height hash) = (row_at (state_of m) height hash, m)
+ask m (requests.Payees height count) = (payees_at (state_of m) height count, m)
+ask m (requests.Members kind base) = (members_at (state_of m) kind base, m)
+ask m (requests.Quorums height) = (quorums_at (state_of m) height, m)
 ask m (requests.Pin height) = shortly (pin m height)
-ask m (requests.Page number from count) = (page m number from count, m)
+ask m (requests.Page number from count) = (page (state_of m) number from count, m)
 ask m (requests.Release number) = shortly (release m number)
-ask m (requests.Diff base block) = (diff m base block, m)
+ask m (requests.Diff base block) = (diff (state_of m) base block, m)
 
 -- ---- frames
 
@@ -192,7 +209,7 @@ abbrev pub departs_at : ℕ → Answer
 departs_at place = Short (short.BadRequest (HEAD + place))
 
 -- the answer to a body that is read, or departs
-abbrev pub asked_by : MachineState → Result Request Departure → Answer × MachineState
+abbrev pub asked_by : Machine → Result Request Departure → Answer × Machine
 asked_by m (Ok request) = ask m request
 asked_by m (Err departure) = (departs_at (place_of departure), m)
 
@@ -200,38 +217,13 @@ asked_by m (Err departure) = (departs_at (place_of departure), m)
 abbrev pub unknown : Answer
 unknown = Short (short.BadRequest 0)
 
-abbrev pub not_built : Answer
-not_built = Short short.NotBuilt
-
-unfoldable pub asked_kind : MachineState → Option Kind → List ℕ → Answer × MachineState
+unfoldable pub asked_kind : Machine → Option Kind → List ℕ → Answer × Machine
 asked_kind m None body = (unknown, m)
 asked_kind m (Some kind) body = asked_by m (request_of kind body)
 
--- ---- before a start record was taken
-
-unfoldable pub started_by : Result StartRecord Departure → Answer × Option MachineState
-started_by (Ok start) = (Short short.Started, Some (begun start))
-started_by (Err departure) = (departs_at (place_of departure), None)
-
-abbrev pub idle_kind : Option Kind → Answer
-idle_kind None = unknown
-idle_kind (Some kind) = not_built
-
-unfoldable pub asked_idle : ℕ → List ℕ → Answer × Option MachineState
-asked_idle kind body = if kind == START then started_by (whole start_record body) else (idle_kind (kind_of kind), None)
-
--- ---- all frames
-
-abbrev pub held_then : Answer × MachineState → Answer × Option MachineState
-held_then next = (next.0, Some next.1)
-
-abbrev pub asked : Option MachineState → ℕ → List ℕ → Answer × Option MachineState
-asked None kind body = asked_idle kind body
-asked (Some m) kind body = held_then (asked_kind m (kind_of kind) body)
-
 -- the answer to a frame whose body has this length; one that is too long is not looked at
-unfoldable pub answered : Option MachineState → ℕ → ℕ → List ℕ → Answer × Option MachineState
-answered m kind size body = if nat_lt LONGEST_BODY size then (Short (short.BadRequest 1), m) else asked m kind body
+unfoldable pub answered : Machine → ℕ → ℕ → List ℕ → Answer × Machine
+answered m kind size body = if nat_lt LONGEST_BODY size then (Short (short.BadRequest 1), m) else asked_kind m (kind_of kind) body
 
-abbrev pub answer_of : Option MachineState → ℕ → List ℕ → Answer × Option MachineState
+abbrev pub answer_of : Machine → ℕ → List ℕ → Answer × Machine
 answer_of m kind body = answered m kind (length body) body

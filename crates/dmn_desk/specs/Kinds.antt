@@ -1,10 +1,9 @@
 -- The kinds of requests: their numbers, how much of a body is read, and which may want memory.
-use Rattle.std.specs.Prelude.{ℕ, ◌==◌, Bool, true, false, if◌then◌else◌, List, [], take, Option, None, Some}
+use Rattle.std.specs.Prelude.{ℕ, ◌==◌, Bool, true, false, if◌then◌else◌, Option, None, Some}
 use Rattle.dmn_desk.specs.declared.kind.Kind.{Kind}
 use Rattle.dmn_desk.specs.declared.kind.Kind.TheVariants.{Connect, Disconnect, Tip, List as ListKind, Row, Payees, Members, Quorums, Diff, Pin, Page, Release}
-use Rattle.dmn_desk.specs.declared.limits.TheConstants.{FRONT}
-use Rattle.dmn_desk.specs.declared.reading.Reading.{Reading}
-use Rattle.dmn_desk.specs.declared.reading.Reading.TheVariants.{Nothing, Front, Whole}
+use Rattle.dmn_frames.specs.declared.reading.Reading.{Reading}
+use Rattle.dmn_frames.specs.declared.reading.Reading.TheVariants.{Front, Whole}
 
 unfoldable pub kind_of : ℕ → Option Kind
 kind_of number =
@@ -27,12 +26,6 @@ abbrev pub reading_of : Kind → Reading
 reading_of Connect = Whole
 reading_of Diff = Whole
 reading_of kind = Front
-
--- what is left of a body that is read so
-abbrev pub kept_of : Reading → List ℕ → List ℕ
-kept_of Nothing body = []
-kept_of Front body = take FRONT body
-kept_of Whole body = body
 
 -- the kinds that are answered without memory
 abbrev pub takes_no_memory : Option Kind → Bool

@@ -6,3 +6,4 @@ pub mod Framed
 pub mod Texts
 pub mod Ask
 pub mod Asked
+pub mod Kept

@@ -1,10 +1,10 @@
 -- Requests, and the bodies by which they come.
-use Rattle.std.specs.Prelude.{◌≡◌, ℕ, ◌≤◌, nat_lt, if◌then◌else◌, List, length, Result, Ok, Err}
+use Rattle.std.specs.Prelude.{◌≡◌, ℕ, ◌≤◌, Bool, true, false, nat_lt, if◌then◌else◌, List, length, Result, Ok, Err}
 use Rattle.std.specs.Int.{w16, w32}
 use Rattle.dmn_block.specs.declared.fault.BlockFault.{BlockFault}
 use Rattle.dmn_block.specs.declared.fault.BlockFault.TheVariants as blocks
 use Rattle.dmn_block.specs.Body.{connect_body}
-use Rattle.dmn_block.specs.Defs.{IsBlock, IsBlockText}
+use Rattle.dmn_block.specs.Defs.{IsBlock, IsBlockText, most_items}
 use Rattle.dmn_block.specs.Frames.{frame_of}
 use Rattle.dmn_bytes.specs.declared.fault.Departure.{Departure}
 use Rattle.dmn_bytes.specs.declared.fault.Departure.TheVariants.{Form}
@@ -54,9 +54,17 @@ kind_by (Pin height) = kinds.Pin
 kind_by (Page pin from count) = kinds.Page
 kind_by (Release pin) = kinds.Release
 
--- what each request keeps that is asked: a block has its ids, and its body is its text
+-- a request that changes nothing, whatever is answered
+abbrev pub is_question : Request → Bool
+is_question (Connect block body) = false
+is_question (Disconnect h) = false
+is_question (Pin height) = false
+is_question (Release pin) = false
+is_question request = true
+
+-- what each request keeps that is asked: a block has its ids, and its body is its text, and not too long
 abbrev pub IsRequest : Request → Type 0
-IsRequest (Connect block body) = IsBlock block × IsBlockText body block
+IsRequest (Connect block body) = IsBlock block × IsBlockText body block × (length body ≤ most_items)
 IsRequest request = Unit {0}
 
 -- ---- what a reader tells

@@ -7,14 +7,13 @@ use Rattle.dmn_desk.specs.declared.answer.Answer.TheVariants as answers
 use Rattle.dmn_desk.specs.declared.answer.GrownAnswer.{GrownAnswer}
 use Rattle.dmn_desk.specs.declared.answer.GrownAnswer.TheVariants as grown
 use Rattle.dmn_desk.specs.declared.answer.ShortAnswer.{ShortAnswer}
-use Rattle.dmn_desk.specs.declared.answer.ShortAnswer.TheVariants.{Started, Connected, Disconnected, Tip, Pinned, Released, PinsFull, PinUnknown, Memory, BadRequest, NotHeld, Refused, NotTip, AtStart, TooDeep, NotBuilt, NoSuch, BaseAbove}
+use Rattle.dmn_desk.specs.declared.answer.ShortAnswer.TheVariants.{Connected, Disconnected, Tip, Pinned, Released, PinsFull, PinUnknown, Memory, BadRequest, NotHeld, Refused, NotTip, AtStart, TooDeep, JournalFull, NoSuch, BaseAbove}
 use Rattle.dmn_desk.specs.Framed.{framed, connected_body, tip_body, held_body, list_body, refused_body, most_items, hashes_body, page_body, quorums_body}
 use Rattle.dmn_diff.specs.Defs.{diff_text}
 use Rattle.dmn_payloads.specs.declared.commitment.Commitment.{Commitment}
 use Rattle.dmn_rows.specs.RowText.{row_text}
 
 abbrev pub short_status : ShortAnswer → ℕ
-short_status Started = 0
 short_status (Connected height hash) = 0
 short_status (Disconnected height hash) = 0
 short_status (Tip height hash low top) = 0
@@ -31,10 +30,9 @@ short_status (Refused refusal) = 8
 short_status (NotTip tip) = 9
 short_status AtStart = 10
 short_status (TooDeep floor) = 11
-short_status NotBuilt = 13
+short_status JournalFull = 12
 
 unfoldable pub short_body : ShortAnswer → List ℕ
-short_body Started = []
 short_body (Connected height hash) = connected_body height hash
 short_body (Disconnected height hash) = connected_body height hash
 short_body (Tip height hash low top) = tip_body height hash low top
@@ -51,7 +49,7 @@ short_body (Refused refusal) = refused_body refusal
 short_body (NotTip tip) = tip.0
 short_body AtStart = []
 short_body (TooDeep floor) = to_le_bytes w32 floor
-short_body NotBuilt = []
+short_body JournalFull = []
 
 unfoldable pub grown_body : GrownAnswer → List ℕ
 grown_body (grown.List height hash root entries) = list_body height hash root entries

@@ -19,8 +19,6 @@ pub enum Answer {
 /// An answer whose length is bounded, so that its frame takes no memory.
 #[derive(Clone, Copy, Debug, PartialEq, Eq)]
 pub enum ShortAnswer {
-    /// The start record is taken.
-    Started,
     /// The block is accepted, at this height.
     Connected {
         height: u32,
@@ -76,8 +74,8 @@ pub enum ShortAnswer {
     TooDeep {
         floor: u32,
     },
-    /// What it asks for is not built.
-    NotBuilt,
+    /// With the command the journal would be longer than its limit.
+    JournalFull,
 }
 
 /// An answer that grows with what it tells.

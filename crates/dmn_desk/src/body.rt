@@ -5,9 +5,9 @@ ghost use Rattle.std.specs.Int.{w32, to_le_bytes};
 ghost use Rattle.dmn_desk.specs.Framed.{framed, connected_body, tip_body, held_body, refused_body};
 
 use crate::rule_fields::rule_fields;
-use crate::short::Short;
 use dmn_block::Refusal;
 use dmn_bytes::Hash256;
+use dmn_frames::Short;
 
 /// The head of a frame: its status, and its body's length.
 pub fn head(status: u8, size: u32) -> Short

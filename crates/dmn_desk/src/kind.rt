@@ -1,6 +1,6 @@
 //! The kinds of requests.
 
-use crate::reading::Reading;
+use dmn_frames::Reading;
 
 /// The kinds of requests.
 #[derive(Clone, Copy, Debug, PartialEq, Eq)]

@@ -1,18 +1,16 @@
 //! The active quorums of a height, and the frame of that.
 
-ghost use Rattle.std.specs.Prelude.{◌≡◌, ◌+◌, ◌-◌, ◌^◌, ◌<◌, IfOk, IsTrue, length, min};
-ghost use Rattle.std.specs.List.{flat_map};
+ghost use Rattle.std.specs.Prelude.{◌≡◌, IfOk, IsTrue};
 ghost use Rattle.dmn_branch.specs.Machine.{MachineState};
 ghost use Rattle.dmn_branch.specs.Stands.{StandsFor};
 ghost use Rattle.dmn_bytes.specs.Sending.{Appends};
-ghost use Rattle.dmn_payloads.specs.Commitments.{commitment};
 ghost use Rattle.dmn_desk.specs.Ask.{quorums_at};
 ghost use Rattle.dmn_desk.specs.Framed.{framed, quorums_body};
 ghost use Rattle.dmn_desk.specs.Texts.{IsBounded, IsSendable};
 
 use crate::answer::{Answer, GrownAnswer};
 use crate::height::{is_held, not_held};
-use crate::length::Length;
+use crate::length::text_length;
 use dmn_branch::Branch;
 use dmn_bytes::{Items, Memory, Sink, Text, feed_count, feed_many};
 use dmn_payloads::Commitment;
@@ -20,15 +18,6 @@ use std::alloc::Global;
 
 /// The bytes of the count before the commitments.
 const COUNT: u64 = 2;
-
-// How many bytes the texts of commitments have.
-fn text_length(commitments: &[Commitment]) -> u64
-    ensures { result ≡ min (2 ^ 64 - 1) (length (flat_map commitment.text commitments.now)) }
-{
-    let mut length = Length::new();
-    feed_many(commitments, &mut length);
-    length.bytes()
-}
 
 // Whether the count and the length of these commitments fit their fields.
 #[tactic(auto, unfolding(crate::specs::Framed::quorums_body))]

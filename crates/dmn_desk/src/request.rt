@@ -6,9 +6,9 @@ ghost use Rattle.dmn_bytes.specs.Reading.{Reads};
 ghost use Rattle.dmn_desk.specs.Requests.{IsRequest, Told, IsWithin, ended, request_of};
 
 use crate::kind::Kind;
-use crate::limits::LONGEST_BODY;
 use dmn_block::{BlockFault, BlockFrame, read_block};
 use dmn_bytes::{Bytes, Hash256, Memory, ReadFault, Reader};
+use dmn_frames::LONGEST_BODY;
 use std::alloc::Global;
 use thiserror::Error;
 

@@ -3,7 +3,7 @@
 ghost use Rattle.std.specs.Prelude.{◌≡◌, ◌≤◌, length};
 ghost use Rattle.dmn_desk.specs.RuleFields.{rule_fields};
 
-use crate::short::Short;
+use dmn_frames::Short;
 use dmn_rows::Rule;
 
 /// What the refusal by a rule tells, behind its number and the transaction's place.

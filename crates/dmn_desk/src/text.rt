@@ -13,8 +13,8 @@ use crate::list::feed_list;
 use crate::page::feed_page;
 use crate::quorums::feed_quorums;
 use crate::row::put_row;
-use crate::short::Short;
 use dmn_bytes::{Bytes, Draft, Memory};
+use dmn_frames::Short;
 
 impl ShortAnswer {
     /// The number of its status.
@@ -22,8 +22,7 @@ impl ShortAnswer {
         ensures { result ≡ short_status self.now }
     {
         match self {
-            ShortAnswer::Started
-            | ShortAnswer::Connected { .. }
+            ShortAnswer::Connected { .. }
             | ShortAnswer::Disconnected { .. }
             | ShortAnswer::Tip { .. }
             | ShortAnswer::Pinned { .. }
@@ -39,7 +38,7 @@ impl ShortAnswer {
             ShortAnswer::NotTip { .. } => 9,
             ShortAnswer::AtStart => 10,
             ShortAnswer::TooDeep { .. } => 11,
-            ShortAnswer::NotBuilt => 13,
+            ShortAnswer::JournalFull => 12,
         }
     }
 
@@ -49,15 +48,14 @@ impl ShortAnswer {
         ensures length { length result ≤ 100 }
     {
         match self {
-            ShortAnswer::Started
-            | ShortAnswer::Released
+            ShortAnswer::Released
             | ShortAnswer::Memory
             | ShortAnswer::NoSuch
             | ShortAnswer::BaseAbove
             | ShortAnswer::PinsFull
             | ShortAnswer::PinUnknown
             | ShortAnswer::AtStart
-            | ShortAnswer::NotBuilt => empty_body(),
+            | ShortAnswer::JournalFull => empty_body(),
             ShortAnswer::Connected { height, hash } | ShortAnswer::Disconnected { height, hash } =>
                 { connected_body(*height, hash) }
             ShortAnswer::Tip {

@@ -4,23 +4,29 @@ use Rattle.dmn_outside.specs.Crashes.{LeavesOnly, Rests}
 use Rattle.dmn_outside.specs.Disk.{AreOver, DiskView, Past, Since, SinceIn, Three}
 use Rattle.dmn_outside.proofs.Crash.{joins, started, widened}
 use Rattle.dmn_journal.specs.Journal.{Entry}
-use Rattle.dmn_registry.specs.Machine.{Machine, Accepts, Reaches}
+use Rattle.dmn_registry.specs.Machine.{Machine, Accepts, Reaches, at_rest, with_pins}
 use Rattle.dmn_registry.specs.Own.{IsBetween, IsOwn, Leads, OwnWith}
+use Rattle.dmn_branch.specs.Pins.{Pins}
+use Rattle.dmn_registry.proofs.Apart.{accepts_rest}
 use Rattle.dmn_registry.proofs.Resting.{rests_images}
 use Rattle.dmn_registry.proofs.Once.{accepts_once}
 
 pub leads_self : (m : Machine) → Leads m m
 leads_self m = ([], refl)
 
+-- other pins
+pub leads_pins : (m : Machine) (pins : Pins) → Leads m (with_pins m pins)
+leads_pins m pins = ([], refl)
+
 pub leads_one : (m : Machine) (entry : Entry) (n : Machine) → Accepts m entry n → Leads m n
-leads_one m entry n accepts = (entry ∷ [], (n, accepts, refl))
+leads_one m entry n accepts = (entry ∷ [], (at_rest n, accepts_rest m entry n accepts, refl))
 
 reaches_on : (m : Machine) (es : List Entry) (n : Machine) (ds : List Entry) (o : Machine) → Reaches m es n → Reaches n ds o → Reaches m (es ++ ds) o
 reaches_on m [] n ds o one two = subst (λ (k : Machine). Reaches k ds o) one two
 reaches_on m (e ∷ es) n ds o one two = (one.0, one.1, reaches_on one.0 es n ds o one.2 two)
 
 pub leads_on : (m n o : Machine) → Leads m n → Leads n o → Leads m o
-leads_on m n o one two = (one.0 ++ two.0, reaches_on m one.0 n two.0 o one.1 two.1)
+leads_on m n o one two = (one.0 ++ two.0, reaches_on (at_rest m) one.0 (at_rest n) two.0 (at_rest o) one.1 two.1)
 
 pub between_self : (m : Machine) (image : Three (List ℕ)) → IsOwn m image → IsBetween m m image
 between_self m image own = record { machine = m; from = leads_self m; to = leads_self m; own = own }
@@ -49,12 +55,12 @@ between_refused m entry image never (inr (o, accepts, own)) = absurd (never o ac
 -- ---- runs
 
 -- no disk call, on a disk on which the registry stands for the machine
-pub at_rest : (t : ℕ) (old new : DiskView) (m : Machine) → AreOver t old.past → Rests (IsOwn m) old.told → new ≡ old → LeavesOnly t old new (IsBetween m m)
-at_rest t old new m over rests same = subst (λ (d : DiskView). LeavesOnly t old d (IsBetween m m)) (sym same) (started t old (IsBetween m m) over (λ image now. between_self m image (rests_images m old.told image rests now)))
+pub unmoved : (t : ℕ) (old new : DiskView) (m : Machine) → AreOver t old.past → Rests (IsOwn m) old.told → new ≡ old → LeavesOnly t old new (IsBetween m m)
+unmoved t old new m over rests same = subst (λ (d : DiskView). LeavesOnly t old d (IsBetween m m)) (sym same) (started t old (IsBetween m m) over (λ image now. between_self m image (rests_images m old.told image rests now)))
 
 -- a run that began later, on a disk at rest
 pub earlier : (t later : ℕ) (old new : DiskView) (m n : Machine) → t ≤ later → AreOver t old.past → Rests (IsOwn m) old.told → LeavesOnly later old new (IsBetween m n) → Leads m n → LeavesOnly t old new (IsBetween m n)
-earlier t later old new m n le over rests run leads = joins t old old new (IsBetween m n) (widened t old old _ _ (at_rest t old old m over rests refl) (λ image b. between_to m m n image leads b)) later (IsBetween m n) le run (λ image b. b)
+earlier t later old new m n le over rests run leads = joins t old old new (IsBetween m n) (widened t old old _ _ (unmoved t old old m over rests refl) (λ image b. between_to m m n image leads b)) later (IsBetween m n) le run (λ image b. b)
 
 -- a run, and then another
 pub run_on : (t later : ℕ) (old mid new : DiskView) (m n o : Machine) → t ≤ later → Leads m n → Leads n o → LeavesOnly t old mid (IsBetween m n) → LeavesOnly later mid new (IsBetween n o) → LeavesOnly t old new (IsBetween m o)

@@ -11,7 +11,7 @@ use Rattle.dmn_block.specs.declared.fault.BlockFault.TheVariants as forms
 use Rattle.dmn_registry.specs.Opening.{Reads}
 use Rattle.dmn_block.specs.declared.body.ConnectBody.{ConnectBody}
 use Rattle.dmn_block.specs.declared.frame.BlockFrame.{BlockFrame}
-use Rattle.dmn_branch.specs.Machine.{Command, Connect, Disconnect}
+use Rattle.dmn_branch.specs.Machine.{Command, Connect, Disconnect, with_block, without_tip}
 use Rattle.dmn_bytes.specs.Format.{whole}
 use Rattle.dmn_bytes.specs.declared.fault.Departure.{Departure}
 use Rattle.dmn_bytes.specs.declared.hash.Hash256.{Hash256}
@@ -20,7 +20,8 @@ use Rattle.std.proofs.lemmas.Bool.{le-ltb}
 use Rattle.std.proofs.lemmas.Bool.Decides.{nat_tests}
 use Rattle.dmn_journal.specs.Journal.{Entry}
 use Rattle.dmn_journal.specs.Reading.{connect_departs as form_of_connect, entry_departs, hash_departs}
-use Rattle.dmn_registry.specs.Machine.{command_of, connect_by, connecting, disconnecting}
+use Rattle.dmn_registry.proofs.Verdicts.{state_more}
+use Rattle.dmn_registry.specs.Machine.{Machine, command_of, connect_by, connecting, disconnecting, state_of, with_entry}
 
 -- a body that is a block's text is read as that block
 pub body_read : (body : List ℕ) (block : BlockFrame) → IsBlockText body block → HasItsIds block → connect_by (whole connect_body body) ≡ Ok (Connect block)
@@ -80,3 +81,11 @@ connect_form body fits = let short : nat_lt 16777216 (length body) ≡ false = l
 pub disconnect_form : (hash : Hash256) → length hash.0 ≡ 32 → entry_departs (disconnecting hash) ≡ None
 unfolding entry_departs
 disconnect_form hash long = rw long refl
+
+-- ---- the machine of blocks, behind a command
+
+pub state_connected : (m : Machine) (body : List ℕ) (block : BlockFrame) → IsBlockText body block → HasItsIds block → state_of (with_entry m (connecting body)) ≡ with_block (state_of m) block
+state_connected m body block text ids = state_more m (connecting body) (Connect block) (connect_command (connecting body) block refl text ids)
+
+pub state_disconnected : (m : Machine) (hash : Hash256) → state_of (with_entry m (disconnecting hash)) ≡ without_tip (state_of m) hash
+state_disconnected m hash = state_more m (disconnecting hash) (Disconnect hash) (disconnect_command (disconnecting hash) (λ (e : 2 ≡ 1). let wrong : ⊥ = omega (arith, e) in wrong))

@@ -8,10 +8,11 @@ use Rattle.dmn_branch.specs.Stands as branches
 use Rattle.dmn_journal.specs.Journal.{Entry, IsShort, blocks as records, entry_text, gate_place, header_text, size_of_record}
 use Rattle.dmn_journal.specs.Reading.{entry_departs}
 use Rattle.dmn_journal.proofs.Append.{next_place}
-use Rattle.dmn_registry.specs.Machine.{Accepts, IsReplayed, Machine, Reaches, begun, command_of, journal_max, state_of, with_entry}
+use Rattle.dmn_registry.specs.Machine.{Accepts, IsReplayed, Machine, Reaches, at_rest, begun, command_of, journal_max, state_of, with_entry}
 use Rattle.dmn_registry.specs.Opening.{IsAllowed}
 use Rattle.dmn_registry.specs.Own.{StandsFor}
 use Rattle.dmn_registry.specs.declared.registry.Registry.{Registry}
+use Rattle.dmn_registry.proofs.Apart.{accepts_rest}
 use Rattle.dmn_registry.proofs.Verdicts.{is_taken, long_with, state_more}
 
 -- ---- places
@@ -34,7 +35,7 @@ reaches_more m [] n entry o reaches accepts = (o, subst (λ (k : Machine). Accep
 reaches_more m (e ∷ entries) n entry o reaches accepts = (reaches.0, reaches.1, reaches_more reaches.0 entries n entry o reaches.2 accepts)
 
 pub next_replayed : (m : Machine) (entry : Entry) → IsReplayed m → Accepts m entry (with_entry m entry) → IsReplayed (with_entry m entry)
-next_replayed m entry replayed accepts = record { replay = reaches_more (begun m.start) m.commands m entry (with_entry m entry) replayed.replay accepts }
+next_replayed m entry replayed accepts = record { replay = reaches_more (begun m.start) m.commands (at_rest m) entry (at_rest (with_entry m entry)) replayed.replay (accepts_rest m entry (with_entry m entry) accepts) }
 
 -- ---- a registry
 

@@ -5,6 +5,7 @@ use Rattle.std.specs.Int.{w32, to_le_bytes}
 use Rattle.std.proofs.lemmas.Bool.{le-ltb}
 use Rattle.std.proofs.lemmas.List.{append_cancel_left, take_at}
 use Rattle.std.proofs.lemmas.Nat.{from_le_bytes-to_le_bytes_4}
+use Rattle.dmn_branch.specs.Pins.{no_pins}
 use Rattle.dmn_bytes.specs.Sound.{ok_is, whole_again}
 use Rattle.dmn_journal.specs.Journal.{AreShort, Entry, HasCommands, blocks, entry_text, header_text, magic}
 use Rattle.dmn_journal.specs.Reading.{Found, found, found_at, header_departs, later, place_in, start_at, start_departs}
@@ -15,10 +16,11 @@ use Rattle.dmn_journal.proofs.Unique.{commands_once, entry_once}
 use Rattle.dmn_outside.specs.Crashes.{IsKnown, Rests}
 use Rattle.dmn_outside.specs.Disk.{IfReads, Three, Told, all_reads, contents, nothing, whole as all_told}
 use Rattle.dmn_registry.specs.Departs.{DepartsAt, stop_at, stop_by}
-use Rattle.dmn_registry.specs.Machine.{Accepts, Machine, Reaches, Verdict, begun, denied, formless, taken, verdict}
+use Rattle.dmn_registry.specs.Machine.{Accepts, Machine, Reaches, Verdict, at_rest, begun, denied, formless, taken, verdict}
 use Rattle.dmn_registry.specs.Opening.{Opens, Recovers, Replays, IsQuiet, reads_of}
 use Rattle.dmn_registry.specs.Own.{IsJournal, IsOwn, StandsFor}
 use Rattle.dmn_registry.specs.declared.registry.Registry.{Registry}
+use Rattle.dmn_registry.proofs.Apart.{rests_apart, stop_apart}
 use Rattle.dmn_registry.proofs.Lengths.{start_long}
 use Rattle.dmn_registry.proofs.Syncing.{quiet_unread, rests_of}
 use Rattle.dmn_outside.specs.Changes.{unread}
@@ -73,12 +75,12 @@ reaches_once m (entry ∷ entries) n o one two =
     let same : one.0 ≡ two.0 = accepts_once m entry one.0 two.0 one.1 two.1 in
     reaches_once two.0 entries n o (subst (λ (k : Machine). Reaches k entries n) same one.2) two.2
 
-pub journal_once : (m n : Machine) (file : List ℕ) → IsJournal m file → IsJournal n file → m ≡ n
+pub journal_once : (m n : Machine) (file : List ℕ) → IsJournal m file → IsJournal n file → at_rest m ≡ at_rest n
 journal_once m n file one two =
     let texts : (header_text m.start ++ blocks m.commands) ++ one.journal.gate ∷ one.journal.rest ≡ (header_text n.start ++ blocks n.commands) ++ two.journal.gate ∷ two.journal.rest = sym one.journal.is ∙ two.journal.is in
     let start : m.start ≡ n.start = start_once m.start n.start _ _ one.start two.start (sym (append_assoc (header_text m.start) (blocks m.commands) (one.journal.gate ∷ one.journal.rest)) ∙ texts ∙ append_assoc (header_text n.start) (blocks n.commands) (two.journal.gate ∷ two.journal.rest)) in
     let commands : m.commands ≡ n.commands = commands_once (header_text n.start) m.commands n.commands file (subst (λ (s : StartRecord). HasCommands (header_text s) m.commands file) start one.journal) two.journal in
-    λ i. record { start = start i; commands = commands i }
+    λ i. record { start = start i; commands = commands i; pins = no_pins }
 
 -- ---- no place departs
 
@@ -130,10 +132,11 @@ journal_departs_nowhere m file place own (inr (k, at, b, stops)) =
     let cut' : header_text m.start ++ (blocks k.commands ++ drop at file) ≡ header_text m.start ++ (blocks m.commands ++ own.journal.gate ∷ own.journal.rest) = subst (λ (s : StartRecord). header_text s ++ (blocks k.commands ++ drop at file) ≡ header_text m.start ++ (blocks m.commands ++ own.journal.gate ∷ own.journal.rest)) start cut in
     let behind_header : blocks k.commands ++ drop at file ≡ blocks m.commands ++ own.journal.gate ∷ own.journal.rest = append_cancel_left (header_text m.start) (blocks k.commands ++ drop at file) (blocks m.commands ++ own.journal.gate ∷ own.journal.rest) cut' in
     let back = behind k.commands m.commands own.journal.gate (drop at file) own.journal.rest b.short own.journal.short own.journal.shut behind_header in
-    let replay : Reaches (begun m.start) (k.commands ++ back.more) m = subst (λ (es : List Entry). Reaches (begun m.start) es m) back.is own.replayed.replay in
-    let s = reaches_split (begun m.start) k.commands back.more m replay in
-    let same : s.mid ≡ k = reaches_once (begun m.start) k.commands s.mid k s.first (subst (λ (t : StartRecord). Reaches (begun t) k.commands k) start b.replayed.replay) in
-    stops_nowhere file k m at place own.journal.gate own.journal.rest back.more (shorts k.commands back.more (subst AreShort back.is own.journal.short)) (subst (λ (x : Machine). Reaches x back.more m) same s.second) own.journal.shut back.text_is stops
+    let replay : Reaches (begun m.start) (k.commands ++ back.more) (at_rest m) = subst (λ (es : List Entry). Reaches (begun m.start) es (at_rest m)) back.is own.replayed.replay in
+    let s = reaches_split (begun m.start) k.commands back.more (at_rest m) replay in
+    let same : s.mid ≡ at_rest k = reaches_once (begun m.start) k.commands s.mid (at_rest k) s.first (subst (λ (t : StartRecord). Reaches (begun t) k.commands (at_rest k)) start b.replayed.replay) in
+    stops_nowhere file (at_rest k) (at_rest m) at place own.journal.gate own.journal.rest back.more (shorts k.commands back.more (subst AreShort back.is own.journal.short)) (subst (λ (x : Machine). Reaches x back.more (at_rest m)) same s.second) own.journal.shut back.text_is
+    (stop_apart k no_pins at (found_at at (drop at file)) ∙ stops)
 
 -- ---- what opening answers
 
@@ -154,13 +157,14 @@ reads_same (all_told w) (all_told v) P same p = let e : all_reads v.files ≡ al
 -- replay behind three syncs
 pub opened : (r : Result Registry JournalFault) (old mid new : Told) → IsQuiet mid → reads_of mid ≡ reads_of old → unread new ≡ unread mid → Replays r mid → Opens r old new
 opened (Ok registry) old mid new still same reads replays =
-    (replays.0, record { registry_stands = replays.1; disk = rests_of (λ image. IsJournal replays.0 image.zeroth) new (quiet_unread mid new reads still) (reads_back new mid (λ image. IsJournal replays.0 image.zeroth) (sym reads) replays.2) })
+    let P : Three (List ℕ) → Type 0 = λ image. IsJournal (at_rest replays.0) image.zeroth in
+    (replays.0, record { registry_stands = replays.1; disk = rests_of P new (quiet_unread mid new reads still) (reads_back new mid P (sym reads) replays.2) })
 opened (Err (NotJournal place)) old mid new still same reads replays = reads_same old mid (λ all. DepartsAt all.zeroth place) same replays
 opened (Err DiskFault) old mid new still same reads replays = tt
 opened (Err Memory) old mid new still same reads replays = tt
 
 record Known (m n : Machine) (new : Told) : Type 0 where
-  same : m ≡ n
+  same : at_rest m ≡ at_rest n
   rests : Rests (IsOwn m) new
 
 known_rests : (m n : Machine) (old new : Told) → reads_of new ≡ reads_of old → IsKnown (IsOwn m) old → Rests (λ image. IsJournal n image.zeroth) new → Known m n new
@@ -179,9 +183,9 @@ known_departs m (all_told w) place known departs_at = journal_departs_nowhere m 
 
 pub recovers : (r : Result Registry JournalFault) (m : Machine) (old new : Told) → reads_of new ≡ reads_of old → IsKnown (IsOwn m) old → Opens r old new → Recovers r m new
 recovers (Ok registry) m old new same known opens =
-    let k = known_rests m opens.0 old new same known opens.1.disk in
+    let k = known_rests m (at_rest opens.0) old new same known opens.1.disk in
     let s = subst (λ (x : Machine). StandsFor registry x) (sym k.same) opens.1.registry_stands in
-    record { registry_stands = s; disk = k.rests }
+    record { registry_stands = s; disk = rests_apart m no_pins new k.rests }
 recovers (Err (NotJournal place)) m old new same known opens = known_departs m old place known opens
 recovers (Err DiskFault) m old new same known opens = tt
 recovers (Err Memory) m old new same known opens = tt

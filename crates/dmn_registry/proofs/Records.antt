@@ -15,7 +15,7 @@ use Rattle.dmn_outside.specs.Changes.{unread}
 use Rattle.dmn_outside.specs.Disk.{Told, IfReads}
 use Rattle.dmn_outside.proofs.Reading.{reads_back, reads_both, reads_map}
 use Rattle.dmn_registry.specs.Departs.{BeginsWith, DepartsAt, stop_at, stop_by}
-use Rattle.dmn_registry.specs.Machine.{Machine, begun, command_of, journal_max, verdict, with_entry}
+use Rattle.dmn_registry.specs.Machine.{Machine, at_rest, begun, command_of, journal_max, verdict, with_entry}
 use Rattle.dmn_registry.specs.Opening.{IsRefused, Replayed, Replays, TakesRecord}
 use Rattle.dmn_registry.specs.Own.{IsJournal, StandsFor}
 use Rattle.dmn_registry.specs.declared.registry.Registry.{Registry}
@@ -76,7 +76,7 @@ short_push [] entry all fits = (fits, tt)
 short_push (e ∷ commands) entry all fits = (all.0, short_push commands entry all.1 fits)
 
 module _ (old : Registry) (m : Machine) (told mid : Told) (entry : Entry) (behind : ℕ) (same : unread mid ≡ unread told) (r : Replayed old m told) (record_is : IsRecord mid old.journal.end entry behind) where
-  pub replayed_more : (new : Registry) → new.journal.end ≡ behind → StandsFor new (with_entry m entry) → Replayed new (with_entry m entry) told
+  pub replayed_more : (new : Registry) → new.journal.end ≡ behind → StandsFor new (with_entry (at_rest m) entry) → Replayed new (with_entry m entry) told
   replayed_more new end stands = record {
     registry_stands = stands;
     short = short_push m.commands entry r.short record_is.short;
@@ -85,16 +85,16 @@ module _ (old : Registry) (m : Machine) (told mid : Told) (entry : Entry) (behin
         ∙ ap (λ (k : ℕ). (header_text m.start ++ blocks (m.commands ++ entry ∷ [])) ++ drop k all.zeroth) (sym end));
   }
 
-  begins : IfReads told (λ all. BeginsWith all.zeroth m old.journal.end)
+  begins : IfReads told (λ all. BeginsWith all.zeroth (at_rest m) old.journal.end)
   begins = reads_map told _ _ r.text (λ all is. record { start = r.registry_stands.start; replayed = r.registry_stands.replayed; place = r.registry_stands.end; short = r.short; text = is })
 
   -- where the record is not taken the file departs
-  pub replay_stops : (place : ℕ) → stop_by old.journal.end (verdict m entry) ≡ Some place → IfReads told (λ all. DepartsAt all.zeroth place)
+  pub replay_stops : (place : ℕ) → stop_by old.journal.end (verdict (at_rest m) entry) ≡ Some place → IfReads told (λ all. DepartsAt all.zeroth place)
   replay_stops place stops = reads_both told _ _ _ begins (reads_back told mid _ same record_is.text) (λ all b text.
       let there : found_at old.journal.end (drop old.journal.end all.zeroth) ≡ found entry = record_found old.journal.end (drop old.journal.end all.zeroth) (drop behind all.zeroth) entry record_is.form record_is.short text in
-      inr (m, old.journal.end, b, ap (λ (f : Found). stop_at m old.journal.end f) there ∙ stops))
+      inr (at_rest m, old.journal.end, b, ap (λ (f : Found). stop_at (at_rest m) old.journal.end f) there ∙ stops))
 
-  pub record_stops : (fault : JournalFault) (new : Registry) → TakesRecord (Err fault) m entry old.journal.end new → Replays (Err fault) told
+  pub record_stops : (fault : JournalFault) (new : Registry) → TakesRecord (Err fault) (at_rest m) entry old.journal.end new → Replays (Err fault) told
   record_stops (NotJournal place) new stops = replay_stops place stops
   record_stops DiskFault new stops = tt
   record_stops Memory new stops = tt
@@ -106,19 +106,19 @@ module _ (registry : Registry) (m : Machine) (told mid : Told) (same : unread mi
   replayed_all none = (
     m,
     r.registry_stands,
-    reads_both told _ _ (λ all. IsJournal m all.zeroth) r.text (reads_back told mid _ same none) (λ all is shut.
+    reads_both told _ _ (λ all. IsJournal (at_rest m) all.zeroth) r.text (reads_back told mid _ same none) (λ all is shut.
         let gate = closed_gate registry.journal.end (drop registry.journal.end all.zeroth) shut in
         record { start = r.registry_stands.start; replayed = r.registry_stands.replayed; journal = record { gate = gate.gate; rest = gate.rest; shut = gate.shut; short = r.short; is = is ∙ ap (λ (l : List ℕ). (header_text m.start ++ blocks m.commands) ++ l) gate.is } }),
   )
 
   pub form_stops : (place : ℕ) → IfReads mid (λ all. found_at registry.journal.end (drop registry.journal.end all.zeroth) ≡ departs place) → IfReads told (λ all. DepartsAt all.zeroth place)
   form_stops place is = reads_both told _ _ _ r.text (reads_back told mid _ same is) (λ all text stops.
-      inr (m, registry.journal.end, record { start = r.registry_stands.start; replayed = r.registry_stands.replayed; place = r.registry_stands.end; short = r.short; text = text }, ap (λ (f : Found). stop_at m registry.journal.end f) stops))
+      inr (at_rest m, registry.journal.end, record { start = r.registry_stands.start; replayed = r.registry_stands.replayed; place = r.registry_stands.end; short = r.short; text = text }, ap (λ (f : Found). stop_at (at_rest m) registry.journal.end f) stops))
 
 -- ---- behind a header
 
 pub replays_back : (r : Result Registry JournalFault) (old mid : Told) → unread mid ≡ unread old → Replays r mid → Replays r old
-replays_back (Ok registry) old mid same (m, stands, image) = (m, stands, reads_back old mid (λ all. IsJournal m all.zeroth) same image)
+replays_back (Ok registry) old mid same (m, stands, image) = (m, stands, reads_back old mid (λ all. IsJournal (at_rest m) all.zeroth) same image)
 replays_back (Err (NotJournal place)) old mid same at = reads_back old mid (λ all. DepartsAt all.zeroth place) same at
 replays_back (Err DiskFault) old mid same at = tt
 replays_back (Err Memory) old mid same at = tt

@@ -9,7 +9,6 @@ use Rattle.dmn_branch.specs.declared.fault.DisconnectRefusal.{DisconnectRefusal}
 use Rattle.dmn_bytes.specs.Law.{place_of}
 use Rattle.dmn_bytes.specs.declared.fault.Departure.{Departure}
 use Rattle.dmn_journal.specs.Journal.{Entry, journal_text}
-use Rattle.dmn_branch.specs.Pins.{no_pins}
 use Rattle.dmn_registry.specs.Machine.{Machine, Verdict, answered, by_answer, by_command, command_of, commands_of, denied, formless, journal_max, listed, state_of, taken, verdict, with_entry}
 use Rattle.dmn_registry.specs.Opening.{IsAllowed, IsRefused}
 
@@ -19,7 +18,7 @@ commands_more (e ∷ entries) entry command is = ap (λ (l : List Command). list
 
 -- the machine of blocks has the command that an entry keeps
 pub state_more : (m : Machine) (entry : Entry) (command : Command) → command_of entry ≡ Ok command → state_of (with_entry m entry) ≡ blocks.with_command (state_of m) command
-state_more m entry command is = let more : commands_of (m.commands ++ entry ∷ []) ≡ commands_of m.commands ++ command ∷ [] = commands_more m.commands entry command is in λ i. record { start = m.start; commands = more i; pins = no_pins }
+state_more m entry command is = let more : commands_of (m.commands ++ entry ∷ []) ≡ commands_of m.commands ++ command ∷ [] = commands_more m.commands entry command is in λ i. record { start = m.start; commands = more i; pins = m.pins }
 
 -- the length of the journal with this entry
 abbrev pub long_with : Machine → Entry → ℕ

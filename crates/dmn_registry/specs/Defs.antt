@@ -4,4 +4,5 @@
 --   Departs  where a file departs from a journal image
 --   Opening  what replay and opening answer
 --   Steps    what a connect and a disconnect did, by their answers
+--   Audits   what an audit tells of a machine
 --   Laws     that a file is the image of one machine, and what a disk at rest leaves

@@ -3,12 +3,12 @@ use Rattle.std.specs.Prelude.{◌≡◌, ℕ, List}
 use Rattle.dmn_outside.specs.Crashes.{Rests}
 use Rattle.dmn_outside.specs.Disk.{MayLeave, Three, Told}
 use Rattle.dmn_registry.specs.Departs.{DepartsAt}
-use Rattle.dmn_registry.specs.Machine.{Machine}
+use Rattle.dmn_registry.specs.Machine.{Machine, at_rest}
 use Rattle.dmn_registry.specs.Own.{IsJournal, IsOwn}
 
--- A file is the journal image of one machine at most.
+-- A file is the journal image of one machine at most, pins aside: each opening has this machine without a pin.
 abbrev pub OneMachine : Type 0
-OneMachine = (m n : Machine) (file : List ℕ) → IsJournal m file → IsJournal n file → m ≡ n
+OneMachine = (m n : Machine) (file : List ℕ) → IsJournal m file → IsJournal n file → at_rest m ≡ at_rest n
 
 -- A journal image departs nowhere.
 abbrev pub JournalsDepartNowhere : Type 0

@@ -4,4 +4,5 @@ pub mod Own
 pub mod Departs
 pub mod Opening
 pub mod Steps
+pub mod Audits
 pub mod Laws

@@ -1,6 +1,6 @@
 -- The machine of a registry: a start record and the commands that were accepted since, as the journal keeps them, and one
 -- command more. What is held, and what the rules say of a command, is said by the machine of blocks; what is added here is the
--- limit of the journal.
+-- limit of the journal. Pins stand beside the commands: no journal keeps them, and an opening has none.
 use Rattle.std.specs.Prelude.{◌≡◌, ℕ, ◌==◌, nat_lt, if◌then◌else◌, List, [], ◌∷◌, ◌++◌, length, None, Result, Ok, Err}
 use Rattle.dmn_block.specs.Body.{connect_body}
 use Rattle.dmn_block.specs.Frames.{frame_of}
@@ -8,8 +8,8 @@ use Rattle.dmn_block.specs.declared.body.ConnectBody.{ConnectBody}
 use Rattle.dmn_block.specs.declared.frame.BlockFrame.{BlockFrame}
 use Rattle.dmn_block.specs.declared.refusal.Refusal.{Refusal}
 use Rattle.dmn_branch.specs.Machine as blocks
-use Rattle.dmn_branch.specs.Machine.{Command, Connect, Disconnect, MachineState}
-use Rattle.dmn_branch.specs.Pins.{no_pins}
+use Rattle.dmn_branch.specs.Machine.{Command, Connect, Disconnect, MachineState, pin_at}
+use Rattle.dmn_branch.specs.Pins.{Pins, no_pins, with_pin, without_pin}
 use Rattle.dmn_branch.specs.Step.{profile_of}
 use Rattle.dmn_branch.specs.declared.fault.DisconnectRefusal.{DisconnectRefusal}
 use Rattle.dmn_bytes.specs.Format.{whole}
@@ -25,13 +25,21 @@ pub record Machine : Type 0 where
   pub start : StartRecord
   -- the commands that were accepted, in order
   pub commands : List Entry
+  pub pins : Pins
 
--- the machine of a start record, without commands
+-- the machine of a start record, without commands and pins
 abbrev pub begun : StartRecord → Machine
-begun start = record { start = start; commands = [] }
+begun start = record { start = start; commands = []; pins = no_pins }
 
 abbrev pub with_entry : Machine → Entry → Machine
-with_entry m entry = record { start = m.start; commands = m.commands ++ entry ∷ [] }
+with_entry m entry = record m { commands = m.commands ++ entry ∷ [] }
+
+abbrev pub with_pins : Machine → Pins → Machine
+with_pins m pins = record m { pins = pins }
+
+-- the machine as the next opening has it
+abbrev pub at_rest : Machine → Machine
+at_rest m = with_pins m no_pins
 
 -- ---- commands as the journal keeps them
 
@@ -61,7 +69,7 @@ commands_of (entry ∷ entries) = listed (command_of entry) ++ commands_of entri
 
 -- the machine of blocks after these commands
 abbrev pub state_of : Machine → MachineState
-state_of m = record { start = m.start; commands = commands_of m.commands; pins = no_pins }
+state_of m = record { start = m.start; commands = commands_of m.commands; pins = m.pins }
 
 -- ---- one command more
 
@@ -105,6 +113,15 @@ by_command m entry (Err departure) = formless (place_of departure)
 unfoldable pub verdict : Machine → Entry → Verdict
 verdict m entry = by_command m entry (command_of entry)
 
+-- ---- pins
+
+-- with the list of this height, which is held, as a pin of this number
+abbrev pub pinned : Machine → ℕ → ℕ → Machine
+pinned m number height = with_pins m (with_pin m.pins (pin_at (state_of m) number height))
+
+abbrev pub released : Machine → ℕ → Machine
+released m number = with_pins m (without_pin m.pins number)
+
 -- ---- replay
 
 -- the entry is in a record's form, and the machine accepts it
@@ -117,6 +134,6 @@ abbrev pub Reaches : Machine → List Entry → Machine → Type 0
 Reaches m [] n = n ≡ m
 Reaches m (entry ∷ entries) n = (mid : Machine) × Accepts m entry mid × Reaches mid entries n
 
--- the machine accepts its own commands, each in its place, from its start record on
+-- the machine accepts its own commands, each in its place, from its start record on, pins aside
 pub record IsReplayed (m : Machine) : Type 0 where
-  pub replay : Reaches (begun m.start) m.commands m
+  pub replay : Reaches (begun m.start) m.commands (at_rest m)

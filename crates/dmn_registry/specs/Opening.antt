@@ -18,7 +18,7 @@ use Rattle.dmn_journal.specs.declared.fault.JournalFault.TheVariants.{DiskFault,
 use Rattle.dmn_outside.specs.Crashes.{AreSynced}
 use Rattle.dmn_outside.specs.Disk.{Three, Told, IfReads, all_reads, contents, nothing, whole}
 use Rattle.dmn_registry.specs.Departs.{DepartsAt, stop_by}
-use Rattle.dmn_registry.specs.Machine.{Accepts, Machine, command_of, verdict, with_entry}
+use Rattle.dmn_registry.specs.Machine.{Accepts, Machine, at_rest, command_of, verdict, with_entry}
 use Rattle.dmn_registry.specs.Own.{IsJournal, StandsFor, StandsOn, StandsOnFile}
 use Rattle.dmn_registry.specs.declared.command.Command as read
 use Rattle.dmn_registry.specs.declared.command.Command.TheVariants as commands
@@ -79,32 +79,33 @@ TakesRecord (Err Memory) m entry at new = Unit {0}
 
 -- ---- all records
 
--- the records that were read so far
+-- the records that were read so far; nothing is pinned
 pub record Replayed (registry : Registry) (m : Machine) (told : Told) : Type 0 where
-  pub registry_stands : StandsFor registry m
+  pub registry_stands : StandsFor registry (at_rest m)
   pub short : AreShort m.commands
   pub text : IfReads told (λ all. all.zeroth ≡ (header_text m.start ++ records m.commands) ++ drop registry.journal.end all.zeroth)
 
--- What replay of file 0 answers: a registry that stands for the machine of the file; or the place where the file departs from a
--- journal image.
+-- What replay of file 0 answers: a registry that stands for the machine of the file, without a pin; or the place where the file
+-- departs from a journal image.
 abbrev pub Replays : Result Registry JournalFault → Told → Type 0
-Replays (Ok registry) told = (m : Machine) × StandsFor registry m × IfReads told (λ all. IsJournal m all.zeroth)
+Replays (Ok registry) told = (m : Machine) × StandsFor registry (at_rest m) × IfReads told (λ all. IsJournal (at_rest m) all.zeroth)
 Replays (Err (NotJournal place)) told = IfReads told (λ all. DepartsAt all.zeroth place)
 Replays (Err DiskFault) told = Unit {0}
 Replays (Err Memory) told = Unit {0}
 
 -- ---- opening
 
--- What opening answers: a registry that stands for a machine on the disk; or the place where file 0 departs from a journal image.
+-- What opening answers: a registry that stands for a machine without a pin on the disk; or the place where file 0 departs from
+-- a journal image.
 abbrev pub Opens : Result Registry JournalFault → Told → Told → Type 0
-Opens (Ok registry) old new = (m : Machine) × StandsOnFile registry m new
+Opens (Ok registry) old new = (m : Machine) × StandsOnFile registry (at_rest m) new
 Opens (Err (NotJournal place)) old new = IfReads old (λ all. DepartsAt all.zeroth place)
 Opens (Err DiskFault) old new = Unit {0}
 Opens (Err Memory) old new = Unit {0}
 
--- on an image of which this machine is recovered it is this machine, and nothing departs
+-- on an image of which this machine is recovered it is this machine without a pin, and nothing departs
 abbrev pub Recovers : Result Registry JournalFault → Machine → Told → Type 0
-Recovers (Ok registry) m new = StandsOn registry m new
+Recovers (Ok registry) m new = StandsOn registry (at_rest m) new
 Recovers (Err (NotJournal place)) m new = ⊥
 Recovers (Err DiskFault) m new = Unit {0}
 Recovers (Err Memory) m new = Unit {0}

@@ -4,18 +4,18 @@ use Rattle.dmn_branch.specs.Stands as branches
 use Rattle.dmn_outside.specs.Crashes.{Rests}
 use Rattle.dmn_outside.specs.Disk.{Three, Told}
 use Rattle.dmn_journal.specs.Journal.{Entry, HasCommands, gate_place, header_text}
-use Rattle.dmn_registry.specs.Machine.{Machine, IsReplayed, Accepts, Reaches, state_of}
+use Rattle.dmn_registry.specs.Machine.{Machine, IsReplayed, Accepts, Reaches, at_rest, state_of}
 use Rattle.dmn_registry.specs.declared.registry.Registry.{Registry}
 use Rattle.dmn_rows.specs.Defs.{IsStart}
 
--- A file is a journal image, and this is the machine that is recovered from it: its start record, and the records behind its
--- open gates up to the first that is closed, each of which the machine accepts in its place.
+-- A file is a journal image, and this is the machine that is recovered from it, pins aside: its start record, and the records
+-- behind its open gates up to the first that is closed, each of which the machine accepts in its place.
 pub record IsJournal (m : Machine) (file : List ℕ) : Type 0 where
   pub start : IsStart m.start
   pub replayed : IsReplayed m
   pub journal : HasCommands (header_text m.start) m.commands file
 
--- An image is own, and this is the machine that is recovered from it.
+-- An image is own, and this is the machine that is recovered from it, pins aside.
 pub record IsOwn (m : Machine) (image : Three (List ℕ)) : Type 0 where
   pub file : IsJournal m image.zeroth
 
@@ -23,9 +23,9 @@ pub record IsOwn (m : Machine) (image : Three (List ℕ)) : Type 0 where
 abbrev pub OwnWith : Machine → Entry → Three (List ℕ) → Type 0
 OwnWith m entry image = IsOwn m image ⊎ ((n : Machine) × Accepts m entry n × IsOwn n image)
 
--- from the one machine the other is reached
+-- from the one machine the other is reached, pins aside
 abbrev pub Leads : Machine → Machine → Type 0
-Leads m n = (entries : List Entry) × Reaches m entries n
+Leads m n = (entries : List Entry) × Reaches (at_rest m) entries (at_rest n)
 
 -- an image is own, of a machine on the way from one to another
 pub record IsBetween (m n : Machine) (image : Three (List ℕ)) : Type 0 where

@@ -2,7 +2,7 @@
 
 ghost use Rattle.dmn_registry.specs.Laws.{AtRestIsOwn, JournalsDepartNowhere, OneMachine};
 
-/// A file is the journal image of one machine at most.
+/// A file is the journal image of one machine at most, pins aside.
 pub fn one_machine()
     ensures { OneMachine }
 {}

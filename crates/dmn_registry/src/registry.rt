@@ -8,7 +8,8 @@ use dmn_journal::{Journal, JournalFault};
 /// Why a registry could not be opened.
 pub type OpenFault = JournalFault;
 
-/// A branch, and the journal of its commands on a disk. After a disk fault it is spent, and is opened again.
+/// A branch, and the journal of its commands on a disk. Pins are in memory alone. After a disk fault it is spent, and is
+/// opened again.
 #[derive(Drop)]
 pub struct Registry {
     pub(crate) branch: Branch,

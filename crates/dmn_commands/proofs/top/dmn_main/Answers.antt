@@ -1,19 +1,36 @@
-use Rattle.dmn_commands.proofs.Cutting.{statuses_are_exact}
-use Rattle.dmn_commands.proofs.Stamping.{no_turns, turns_all}
+use Rattle.std.proofs.Common.{sym}
+use Rattle.dmn_registry.specs.Machine.{at_rest}
+use Rattle.dmn_commands.specs.declared.command.Command.TheVariants as commands
+use Rattle.dmn_commands.proofs.Running.{ends_well, runs_asked}
 use Rattle.dmn_commands.proofs.top.dmn_main.Goals as goal
 
-pub returns-then-is_feed-clause-complete : goal.returns-then-is_feed-clause-complete
-returns-then-is_feed-clause-complete g c = λ tells is calm frames left cut.
-    (statuses_are_exact _ _ _ frames left (c.feed.ensures.outcome tells) cut).1 (λ e. calm (c.feed.ensures.fault e)) c.feed.ensures.words c.feed.ensures.starts
+pub returns-in-Some-Init-clause-runs : goal.returns-in-Some-Init-clause-runs
+returns-in-Some-Init-clause-runs g c = λ command wanted. runs_asked _ commands.Init command _ _ (sym (rw c.in-Some-Init.field-0-is at c.in-Some-Init.ensures)) wanted (record {
+  ends = c.init.ensures.status;
+  outcome = c.init.ensures.outcome;
+  unwritten = c.init.ensures.before;
+  moments = c.init.ensures.moments;
+  complete = λ tells blank start of calm. c.init.ensures.complete tells blank start of calm.disk calm.line;
+})
 
-pub returns-then-is_feed-clause-sure : goal.returns-then-is_feed-clause-sure
-returns-then-is_feed-clause-sure g c = λ tells told is enough.
-    let never = c.feed.ensures.sure tells told enough in
-    record {
-      status_is = λ frames left cut. (statuses_are_exact _ _ _ frames left (c.feed.ensures.outcome tells) cut).1 never.runs c.feed.ensures.words c.feed.ensures.starts;
-      faults = never.faults;
-      callers = c.feed.ensures.later.callers;
-    }
+pub returns-in-Some-Feed-clause-runs : goal.returns-in-Some-Feed-clause-runs
+returns-in-Some-Feed-clause-runs g c = λ command wanted. runs_asked _ commands.Feed command _ _ (sym (rw c.in-Some-Feed.field-0-is at c.in-Some-Feed.ensures)) wanted (record {
+  ends = c.feed.ensures.status;
+  outcome = c.feed.ensures.outcome;
+  exact = c.feed.ensures.exact;
+  complete = λ tells m known calm frames left cut.
+      ends_well c.feed.result g.T.Device.tells_moments (g.T.Device.time c.args.station.now) (at_rest m) (g.T.Device.disk c.args.station.now) (g.T.Device.disk c.feed.new.station) (g.T.Device.line c.args.station.now) (g.T.Device.line c.feed.new.station) frames left
+      (c.feed.ensures.outcome tells m known) cut (λ e. calm.line (c.feed.ensures.line_fault e)) (λ e. calm.disk (c.feed.ensures.disk_fault e));
+  departs = c.feed.ensures.departs;
+  unserved = c.feed.ensures.unserved;
+  in_turns = c.feed.ensures.in_turns;
+})
 
-pub returns-else-is_feed-clause-in_turns : goal.returns-else-is_feed-clause-in_turns
-returns-else-is_feed-clause-in_turns g c = λ tells stamped. turns_all _ _ _ _ (no_turns _ _)
+pub returns-in-Some-Audit-clause-runs : goal.returns-in-Some-Audit-clause-runs
+returns-in-Some-Audit-clause-runs g c = λ command wanted. runs_asked _ commands.Audit command _ _ (sym (rw c.in-Some-Audit.field-0-is at c.in-Some-Audit.ensures)) wanted (record {
+  ends = c.audit.ensures.status;
+  outcome = c.audit.ensures.outcome;
+  own = c.audit.ensures.own;
+  complete = λ m known calm. c.audit.ensures.complete m known calm.disk calm.line;
+  disk = c.audit.ensures.disk;
+})

@@ -7,5 +7,5 @@ use Rattle.dmn_desk.proofs.diff.feed_diff.Goals as goal
 pub returns : goal.returns
 returns g c =
     let text = diff_text c.args.diff.now in
-    let long : length text ≡ c.text_length.result = omega (arith, c.text_length.ensures, c.requires) in
-    sent_as (text_framed c.text_length.result text long) (sent_then c.put.ensures (sent_then c.feed_count.ensures c.feed.ensures))
+    let long : length text ≡ c.length_of.result = omega (arith, c.length_of.ensures, c.requires) in
+    sent_as (text_framed c.length_of.result text long) (sent_then c.put.ensures (sent_then c.feed_count.ensures c.feed.ensures))

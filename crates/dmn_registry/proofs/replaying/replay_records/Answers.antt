@@ -1,7 +1,7 @@
 use Rattle.std.proofs.Common.{rules, ap, arith, refl}
 use Rattle.dmn_journal.specs.Reads.{entry_of}
 use Rattle.dmn_outside.proofs.Reading.{reads_then}
-use Rattle.dmn_registry.specs.Machine.{begun, state_of, with_entry}
+use Rattle.dmn_registry.specs.Machine.{at_rest, begun, state_of, with_entry}
 use Rattle.dmn_rows.specs.declared.profile.Profile.{Profile}
 use Rattle.dmn_registry.proofs.Records.{begun_end, max_small, record_stops, replayed_all, replayed_more}
 use Rattle.dmn_registry.proofs.replaying.replay_records.Goals as goal
@@ -32,7 +32,7 @@ pub returns-in-Err-take-clause-replays : goal.returns-in-Err-take-clause-replays
 returns-in-Err-take-clause-replays g c =
     let r = c.replay.invariant.so_far in
     let is = rw c.in-Ok-Some.field-0-is at c.in-Ok-Some.ensures.nexts in
-    record_stops c.replay.registry r.0 (g.D.Device.disk c.args.disk.now).told _ (entry_of c.in-Ok-Some.entry) c.in-Ok-Some.behind c.replay.invariant.disk.told r.2 is c.in-Err-take.fault _ (c.in-Err-take.ensures.takes r.0 r.2.registry_stands r.1)
+    record_stops c.replay.registry r.0 (g.D.Device.disk c.args.disk.now).told _ (entry_of c.in-Ok-Some.entry) c.in-Ok-Some.behind c.replay.invariant.disk.told r.2 is c.in-Err-take.fault _ (c.in-Err-take.ensures.takes (at_rest r.0) r.2.registry_stands r.1)
 
 pub replay-preserved : goal.replay-preserved
 replay-preserved g c =
@@ -41,7 +41,7 @@ replay-preserved g c =
     let mid = (g.D.Device.disk c.replay.disk).told in
     let is = rw c.in-Ok-Some.field-0-is at c.in-Ok-Some.ensures.nexts in
     let read = rw c.in-Ok-Some.field-0-is at c.in-Ok-Some.ensures.read in
-    let taken = c.in-Ok.ensures.takes r.0 r.2.registry_stands r.1 in
+    let taken = c.in-Ok.ensures.takes (at_rest r.0) r.2.registry_stands r.1 in
     record {
       below = omega (arith, c.in-Ok.ensures.end, c.in-Ok.ensures.below);
       most = c.replay.invariant.most;

@@ -1,20 +1,31 @@
-use Rattle.dmn_desk.proofs.Asking.{back_answers, block_answers, list_answers, tip_answers, payees_answers, row_answers}
+use Rattle.std.proofs.Common.{◌∙◌, List, ℕ, refl, sym, ap}
+use Rattle.std.specs.Prelude.{Ok}
+use Rattle.dmn_desk.specs.declared.request.Request.TheVariants as requests
+use Rattle.dmn_desk.proofs.Commanding.{asked_as, leaves_as, rested}
 use Rattle.dmn_desk.proofs.desk.Desk.answer.Goals as goal
 
-pub returns-in-Connect-clause-answers : goal.returns-in-Connect-clause-answers
-returns-in-Connect-clause-answers c = block_answers c.args.request.now _ _ c.connect.result _ _ c.in-Connect.is c.connect.ensures
+pub returns-in-Connect-clause-moments : goal.returns-in-Connect-clause-moments
+returns-in-Connect-clause-moments g c = λ m stands.
+    leaves_as _ _ _ m c.args.request.now (requests.Connect c.in-Connect.block c.as_slice.result.now) (c.in-Connect.is ∙ ap (λ (body : List ℕ). requests.Connect c.in-Connect.block body) (sym c.as_slice.ensures)) (c.connect.ensures.moments m stands)
 
-pub returns-in-Disconnect-clause-answers : goal.returns-in-Disconnect-clause-answers
-returns-in-Disconnect-clause-answers c = back_answers c.args.request.now _ c.disconnect.result _ _ c.in-Disconnect.is c.disconnect.ensures
+pub returns-in-Disconnect-clause-moments : goal.returns-in-Disconnect-clause-moments
+returns-in-Disconnect-clause-moments g c = λ m stands. leaves_as _ _ _ m c.args.request.now (requests.Disconnect _) c.in-Disconnect.is (c.disconnect.ensures.moments m stands)
 
-pub returns-in-Tip-clause-answers : goal.returns-in-Tip-clause-answers
-returns-in-Tip-clause-answers c = tip_answers c.args.request.now c.tip_of.result _ c.in-Tip.is c.tip_of.ensures
+pub returns-in-Pin-clause-answers : goal.returns-in-Pin-clause-answers
+returns-in-Pin-clause-answers g c =
+    let told = (g.D.Device.disk c.args.disk.now).told in
+    asked_as c.args.request.now (requests.Pin c.in-Pin.height) (Ok c.pin.result) c.args.self.now c.args.self.now c.args.registry.now c.pin.new.registry told told c.in-Pin.is (c.pin.ensures.answers c.args.self.now told)
 
-pub returns-in-Ok-clause-answers : goal.returns-in-Ok-clause-answers
-returns-in-Ok-clause-answers c = list_answers c.args.request.now _ _ _ c.in-List.is c.in-Ok.ensures.answer
+pub returns-in-Pin-clause-moments : goal.returns-in-Pin-clause-moments
+returns-in-Pin-clause-moments g c = λ m stands. rested _ _ _ c.args.registry.now m _ (g.D.Device.past_is_over c.args.disk.now) stands refl
 
-pub returns-in-Row-clause-answers : goal.returns-in-Row-clause-answers
-returns-in-Row-clause-answers c = row_answers c.args.request.now _ _ c.row_at.result _ c.in-Row.is c.row_at.ensures.answer
+pub returns-in-Release-clause-answers : goal.returns-in-Release-clause-answers
+returns-in-Release-clause-answers g c =
+    let told = (g.D.Device.disk c.args.disk.now).told in
+    asked_as c.args.request.now (requests.Release c.in-Release.pin) (Ok c.release.result) c.args.self.now c.args.self.now c.args.registry.now c.release.new.registry told told c.in-Release.is (c.release.ensures.answers c.args.self.now told)
 
-pub returns-in-Ok-payees_at-clause-answers : goal.returns-in-Ok-payees_at-clause-answers
-returns-in-Ok-payees_at-clause-answers c = payees_answers c.args.request.now _ _ _ _ c.in-Payees.is c.in-Ok-payees_at.ensures.answer
+pub returns-in-Release-clause-moments : goal.returns-in-Release-clause-moments
+returns-in-Release-clause-moments g c = λ m stands. rested _ _ _ c.args.registry.now m _ (g.D.Device.past_is_over c.args.disk.now) stands refl
+
+pub returns-in-Tip-clause-moments : goal.returns-in-Tip-clause-moments
+returns-in-Tip-clause-moments g c = λ m stands. rested _ _ _ c.args.registry.now m _ (g.D.Device.past_is_over c.args.disk.now) stands refl

@@ -1,0 +1,8 @@
+//! An audit of a journal, sent as text.
+#![tactic(auto)]
+
+mod sending;
+mod text;
+
+pub use sending::audit;
+pub use text::audit_text;

@@ -1,5 +1,0 @@
-use Rattle.dmn_commands.proofs.Fronts.{each_front_is_served}
-use Rattle.dmn_commands.proofs.laws.each_front_is_served.Goals as goal
-
-pub returns : goal.returns
-returns c = each_front_is_served

@@ -1,5 +1,0 @@
-use Rattle.std.proofs.Common.{[], ◌∙◌, arith}
-use Rattle.dmn_desk.proofs.quorums.text_length.Goals as goal
-
-pub returns : goal.returns
-returns c = c.bytes.ensures ∙ c.feed_many.ensures.behind [] (omega (arith, c.new-length.ensures))

@@ -1,0 +1,11 @@
+mod Chains
+pub mod Ending
+mod Fed
+mod Fronts
+mod Growing
+mod Opened
+mod Replying
+mod Stamping
+mod Standing
+mod Telling
+mod Turned

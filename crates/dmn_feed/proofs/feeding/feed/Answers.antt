@@ -1,0 +1,42 @@
+use Rattle.std.proofs.Common.{refl, subst, sym}
+use Rattle.dmn_outside.specs.Line.{LineView}
+use Rattle.dmn_registry.specs.Machine.{at_rest, state_of}
+use Rattle.dmn_feed.specs.Offices.{StandsAt}
+use Rattle.dmn_feed.specs.Outcome.{Outcome}
+use Rattle.dmn_feed.specs.Stamps.{SentInTurns}
+use Rattle.dmn_feed.proofs.Opened.{broken_opening, lacks_before, opened, outcome_earlier}
+use Rattle.dmn_feed.proofs.Stamping.{turns_earlier, turns_none}
+use Rattle.dmn_feed.proofs.feeding.feed.Goals as goal
+
+pub returns-in_default-clause-outcome : goal.returns-in_default-clause-outcome
+returns-in_default-clause-outcome g c = λ tells m known. (refl, lacks_before (g.T.Device.time c.args.station.now) (g.T.Device.disk c.args.station.now) m (g.T.Device.past_is_over c.args.station.now) known)
+
+pub returns-in_default-clause-in_turns : goal.returns-in_default-clause-in_turns
+returns-in_default-clause-in_turns g c = λ tells stamped. turns_none _ _ _
+
+pub returns-in-Err-NotJournal-clause-outcome : goal.returns-in-Err-NotJournal-clause-outcome
+returns-in-Err-NotJournal-clause-outcome g c = λ tells m known. rw c.in-Err-NotJournal.field-0-is at (c.in-Err-NotJournal.ensures.recovers m known)
+
+pub returns-in-Err-NotJournal-clause-in_turns : goal.returns-in-Err-NotJournal-clause-in_turns
+returns-in-Err-NotJournal-clause-in_turns g c = λ tells stamped. subst (λ (v : LineView). SentInTurns (g.T.Device.time c.args.station.now) (g.T.Device.time c.open.new.disk) (g.T.Device.line c.args.station.now) v) (sym c.open.ensures.line) (turns_none _ _ _)
+
+pub returns-in-Err-DiskFault-clause-outcome : goal.returns-in-Err-DiskFault-clause-outcome
+returns-in-Err-DiskFault-clause-outcome g c = λ tells m known.
+    broken_opening g.T.Device.tells_moments _ (at_rest m) _ _ _ _ (opened (g.T.Device.time c.args.station.now) (g.T.Device.disk c.args.station.now) (g.T.Device.disk c.open.new.disk) m known c.open.ensures.moments) c.open.ensures.line
+
+pub returns-in-Err-DiskFault-clause-in_turns : goal.returns-in-Err-DiskFault-clause-in_turns
+returns-in-Err-DiskFault-clause-in_turns g c = λ tells stamped. subst (λ (v : LineView). SentInTurns (g.T.Device.time c.args.station.now) (g.T.Device.time c.open.new.disk) (g.T.Device.line c.args.station.now) v) (sym c.open.ensures.line) (turns_none _ _ _)
+
+pub returns-in-Err-Memory-clause-in_turns : goal.returns-in-Err-Memory-clause-in_turns
+returns-in-Err-Memory-clause-in_turns g c = λ tells stamped. subst (λ (v : LineView). SentInTurns (g.T.Device.time c.args.station.now) (g.T.Device.time c.open.new.disk) (g.T.Device.line c.args.station.now) v) (sym c.open.ensures.line) (turns_none _ _ _)
+
+pub returns-clause-outcome : goal.returns-clause-outcome
+returns-clause-outcome g c = λ tells m known.
+    let run = opened (g.T.Device.time c.args.station.now) (g.T.Device.disk c.args.station.now) (g.T.Device.disk c.open.new.disk) m known c.open.ensures.moments in
+    let stands : StandsAt (record { desk = c.in-Ok.desk; registry = c.in-Ok-open.registry }) (at_rest m) (g.T.Device.disk c.open.new.disk).told = record { registry = c.in-Ok-open.ensures.recovers m known; desk = c.in-Ok.ensures (state_of (at_rest m)) } in
+    let later = subst (λ (v : LineView). Outcome c.run.result g.T.Device.tells_moments (g.T.Device.time c.open.new.disk) (at_rest m) (g.T.Device.disk c.open.new.disk) (g.T.Device.disk c.run.new.station) v (g.T.Device.line c.run.new.station)) c.open.ensures.line (c.run.ensures.outcome tells (at_rest m) stands) in
+    outcome_earlier c.run.result g.T.Device.tells_moments _ _ (at_rest m) _ _ _ _ _ c.open.ensures.time run c.run.ensures.status later
+
+pub returns-clause-in_turns : goal.returns-clause-in_turns
+returns-clause-in_turns g c = λ tells stamped.
+    turns_earlier _ _ _ _ _ c.open.ensures.time (subst (λ (v : LineView). SentInTurns (g.T.Device.time c.open.new.disk) (g.T.Device.time c.run.new.station) v (g.T.Device.line c.run.new.station)) c.open.ensures.line (c.run.ensures.in_turns tells stamped))

@@ -1,0 +1,8 @@
+-- What `feed` sends for what it is given, and what a crash leaves of it. A reader begins here; the parts are:
+--   Serving   what may be answered to frames, and when its bytes are sent; want of memory is free
+--   Outcome   what a run has read and sent, and what a crash may leave since its start, by its status
+--   Laws      statuses are exact, each front of a run is served, the bytes tell of Memory; and a chain of runs keeps each
+--             command that was answered
+--   Stamps    when answers are sent: each behind the moment at which its turn began
+--   Offices   for which machine a desk and its registry stand, and how much of a frame's body they read
+--   Steps     what the private parts of a turn do

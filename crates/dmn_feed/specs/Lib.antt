@@ -1,0 +1,7 @@
+pub mod Defs
+pub mod Serving
+pub mod Outcome
+pub mod Laws
+pub mod Stamps
+pub mod Offices
+pub mod Steps

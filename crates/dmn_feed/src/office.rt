@@ -1,0 +1,70 @@
+//! A desk and the registry that it serves.
+
+ghost use Rattle.std.specs.Prelude.{◌≡◌, ◌≤◌, true, false, length, IfOk, IsErr, OnOk};
+ghost use Rattle.dmn_outside.specs.Counts.{Rose};
+ghost use Rattle.dmn_desk.specs.Texts.{IsBounded};
+ghost use Rattle.dmn_feed.specs.Offices.{Decides, Gives};
+
+use dmn_desk::{Answer, Desk, Kind, RequestFault, ShortAnswer, read_request};
+use dmn_frames::{HEAD, LONGEST_BODY, Reading};
+use dmn_outside::{Disk, DiskFault};
+use dmn_registry::Registry;
+use std::alloc::Global;
+
+/// A desk and the registry that it serves.
+#[derive(Drop)]
+pub struct Office {
+    pub desk: Desk,
+    pub registry: Registry,
+}
+
+/// How much of a body is read to answer a frame of this kind and size.
+pub fn reading_of(number: u8, size: u32) -> Reading
+    ensures { Decides result number size }
+{
+    if size > LONGEST_BODY {
+        return Reading::Nothing;
+    }
+    match Kind::of(number) {
+        None => Reading::Nothing,
+        Some(kind) => kind.reading(),
+    }
+}
+
+impl Office {
+    /// The answer to a frame of this kind and size, by what was kept of its body.
+    pub fn answer<D: Disk>(
+        &mut self,
+        alloc: Global,
+        disk: &mut D,
+        number: u8,
+        size: u32,
+        kept: &[u8],
+    ) -> Result<Answer, DiskFault>
+        requires usable { self.old.registry.spent ≡ false }
+        requires fits { length kept.now ≤ size }
+        ensures gives { Gives result number size kept.now (D.time disk.old) (D.disk disk.old) (D.disk disk.new) self.old self.new }
+        ensures bounded { IfOk result IsBounded }
+        ensures usable { OnOk result (self.new.registry.spent ≡ false) }
+        ensures line { D.line disk.new ≡ D.line disk.old }
+        ensures time { D.time disk.old ≤ D.time disk.new }
+        ensures later { (D.disk disk.old).faults ≤ (D.disk disk.new).faults }
+        ensures fault { IsErr result → Rose (D.disk disk.old).faults (D.disk disk.new).faults }
+    {
+        if size > LONGEST_BODY {
+            return Ok(Answer::Short(ShortAnswer::BadRequest { at: 1 }));
+        }
+        let Some(kind) = Kind::of(number) else {
+            return Ok(Answer::Short(ShortAnswer::BadRequest { at: 0 }));
+        };
+        match read_request(alloc, kind, kept) {
+            Ok(request) => self.desk.answer(alloc, &mut self.registry, disk, &request),
+            Err(RequestFault::BadRequest { at }) => {
+                Ok(Answer::Short(ShortAnswer::BadRequest {
+                    at: HEAD + at as u32,
+                }))
+            }
+            Err(RequestFault::Memory) => Ok(Answer::Short(ShortAnswer::Memory)),
+        }
+    }
+}

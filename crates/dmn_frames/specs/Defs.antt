@@ -1,0 +1,7 @@
+-- Frames on a line. A reader begins here; the parts are:
+--   Frames   frames, their text, and how a text is cut into them
+--   Reading  how much of a body is read
+--   Steps    what the parts of a turn do to a line: a frame's head, its body, a part of an answer
+--   Room     what sending takes from the room of a line that tells it
+--   Stamps   when what a turn sends is sent
+--   Laws     each text is cut once

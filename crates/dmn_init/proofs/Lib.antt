@@ -1,0 +1,3 @@
+mod Lengths
+mod Reading
+pub mod Starting

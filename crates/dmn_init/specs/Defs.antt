@@ -1,0 +1,3 @@
+-- How a registry is made, as the contracts see it. A reader begins here; the parts are:
+--   Input  what is read of an input
+--   Init   what was read and made, by the status, and what a crash leaves at any moment

@@ -1,0 +1,11 @@
+-- What a light client sends for the frames that it is given; frames and how they are taken stand in dmn_frames, and what a
+-- client holds and how it steps in dmn_client. A reader begins here; the parts are:
+--   Kinds     the kinds of frames, and how much of a body is read
+--   Header    the body by which a header comes
+--   Answers   the status, the body and the frame of each answer
+--   Ask       the answer to each frame, and what is held after it
+--   Serving   what may be answered to frames, where want of memory is free; the bytes of a run that wants none
+--   Outcome   what a run has read and sent, by its ending
+--   Laws      endings are exact, each front of a run is served, the bytes tell of Memory
+--   Room      runs over a line that tells how many bytes more may be sent
+--   Steps     what the private parts of a turn do to a line

@@ -1,0 +1,10 @@
+pub mod Defs
+pub mod Kinds
+pub mod Header
+pub mod Answers
+pub mod Ask
+pub mod Serving
+pub mod Outcome
+pub mod Laws
+pub mod Room
+pub mod Steps

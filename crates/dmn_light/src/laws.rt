@@ -1,0 +1,24 @@
+//! Laws about the definitions.
+
+ghost use Rattle.dmn_light.specs.Laws.{AnswersTellOfMemory, BytesWithoutMemory, EachFrontIsServed, EndingsAreExact};
+
+/// Done, CutInput and Enough come each exactly where the text says so.
+pub fn endings_are_exact()
+    ensures { EndingsAreExact }
+{}
+
+/// What is served to frames is served to each front of them: each answer is by what the frames before it left.
+pub fn each_front_is_served()
+    ensures { EachFrontIsServed }
+{}
+
+/// Where no answer is Memory, the bytes that are sent are those that the definition gives for the frames.
+pub fn bytes_without_memory()
+    ensures { BytesWithoutMemory }
+{}
+
+/// The bytes of answers are cut into frames in one way, one frame an answer, and a frame's first byte tells whether the
+/// answer is Memory.
+pub fn answers_tell_of_memory()
+    ensures { AnswersTellOfMemory }
+{}

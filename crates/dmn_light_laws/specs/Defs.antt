@@ -1,0 +1,6 @@
+-- What a light client can rely on, by replay of the blocks. A reader begins here; the parts are:
+--   Branches  blocks that came as bodies of bytes, and the states that replay has behind them
+--   Sound     what a diff that a client accepted says of its list
+--   Complete  which diffs are accepted
+--   Asked     that those are accepted which a machine answers
+-- What a client holds and how it steps stand in dmn_client, replay in dmn_branch.

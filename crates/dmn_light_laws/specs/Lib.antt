@@ -1,0 +1,5 @@
+pub mod Defs
+pub mod Branches
+pub mod Sound
+pub mod Complete
+pub mod Asked

@@ -1,0 +1,6 @@
+//! How the program ends, whatever its words asked for.
+#![tactic(auto)]
+
+mod status;
+
+pub use status::Status;

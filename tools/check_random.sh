@@ -2,7 +2,7 @@
 # Compares the built program with an independent model on random streams, where such a model lies beside the repository:
 #   tools/check_random.sh FOLDER STAGE COUNT   FOLDER has the model's make_fuzz.py, STAGE is its name for what is built so
 #                                              far, COUNT says how many streams
-# What the program does not build yet is put right: see check_streams.py, which compares streams that are there already.
+# What the program does not build yet is put right: see check_streams.py, which compares vectors that are there already.
 # Without the model it says so and does nothing. Build the program first (./quickstart).
 set -eu
 folder=${1:-}

@@ -9,4 +9,4 @@ if [ -z "$folder" ] || [ ! -f "$folder/check_vectors.py" ]; then
   exit 0
 fi
 shift
-exec python3 "$folder/check_vectors.py" "$(dirname "$0")/../crates/dmnd/out/dmnd" "$@"
+exec python3 "$folder/check_vectors.py" "$(cd "$(dirname "$0")/.." && pwd)/crates/dmnd/out/dmnd" "$@"

@@ -3,9 +3,12 @@
 
     python3 tools/cases check                  whether the composed files are those of the words in cases/
     python3 tools/cases compose                writes the composed files that the runner dmn_cases reads
-    python3 tools/cases try COMMAND..          runs 'COMMAND WORDS' for each case, WORDS being those of its command line
-    python3 tools/cases try --feed COMMAND..   the same with COMMAND alone, for the cases of 'feed'
-    python3 tools/cases write FILE [CASE]      writes the request frames of a case; '-' is standard input
+    python3 tools/cases try COMMAND..          runs 'COMMAND WORDS' for each run of each case, WORDS being those of its
+                                               command line, in a folder that has the case's files
+    python3 tools/cases show [--bytes] FILE [CASE] -- COMMAND..
+                                               runs a case so, and says in words what is asked and what is answered
+    python3 tools/cases files FILE [CASE]      writes the files that a case begins with into the current folder
+    python3 tools/cases write FILE [CASE]      writes what is sent to a case's first run; '-' is standard input
     python3 tools/cases read FILE [CASE] [--bytes]
                                                reads the answer frames from standard input and says them in words
 """
@@ -14,20 +17,24 @@ import os
 import re
 import subprocess
 import sys
+import tempfile
 import textwrap
 
 from answers import NUMBERS, RULES, Shown, cut_answers
 from casefile import CODES, read_cases
+from disk import PATHS
+from wire import dsha
 from words import Mistake
 
 TOP = os.path.dirname(os.path.dirname(os.path.dirname(os.path.abspath(__file__))))
 CASES = os.path.join(TOP, "cases")
 CRATE = os.path.join(TOP, "crates", "dmn_cases")
-# What no case can reach yet: rules on limits that take many long blocks, and statuses that want no memory, diffs,
-# a disk, or 4,294,967,295 frames. A stage that brings one takes it away here.
+# What no case can reach: rules on limits that take many long blocks, and statuses that want no memory, or 4,294,967,295
+# frames.
 UNREACHED_RULES = {82, 83}
-UNREACHED_STATUSES = {"Memory", "JournalFull", "DiskFault",
-                      "NotJournal", "StartForm", "Enough", "AlreadyInit"}
+UNREACHED_STATUSES = {"Memory", "Enough"}
+# A file's text that is longer is told by its length and its hash.
+LONGEST_TEXT = 600
 
 
 def case_files():
@@ -66,17 +73,65 @@ def hex_words(text):
     return " ".join(word for word in words if word)
 
 
+def stand_line(line, count, end, shown):
+    """What an image may be behind so many answers: how the same words end on it, and what an audit and a Tip show."""
+    return "stand %d %d %s %s" % (line, count, end, hex_words(shown))
+
+
+def asked(run):
+    """What is sent in a run and what is to come, and where an image of each of its calls is judged, what may then stand."""
+    is_judged = bool(run.each)
+    is_making = run.words == ["init"]
+    if is_judged and (run.stand is None or any(ask.is_accepted() and not ask.stand for ask in run.asks)):
+        raise Mistake("line %d: what stands behind each command is not known" % run.line)
+    if is_judged and is_making:
+        yield stand_line(run.line, 0, "Done", b"")
+    elif is_judged:
+        yield stand_line(run.line, 0, run.end, run.stand.shows())
+    count = 0
+    for ask in run.asks:
+        if ask.text:
+            yield "in %d %s" % (ask.line, hex_words(ask.text))
+        if ask.answer:
+            count += 1
+            yield "out %d %s" % (ask.answer_line, hex_words(ask.answer))
+        if is_judged and ask.stand:
+            yield stand_line(ask.line, count, run.end, ask.stand.shows())
+    if is_judged and is_making:
+        yield stand_line(run.line, 1, "AlreadyInit", run.stand.shows())
+
+
+def wanted_file(file, line, text):
+    if len(text) <= LONGEST_TEXT:
+        return "becomes %d %d %s" % (line, file, hex_words(text))
+    return "hashes %d %d %d %s" % (line, file, len(text), dsha(text).hex())
+
+
+def ending(run):
+    return run.end if run.at is None else "%s at %d" % (run.end, run.at)
+
+
+def composed_run(run):
+    lines = ["image %d %s" % (file, hex_words(text)) for file, text in sorted(run.files.items())]
+    lines.append(" ".join(["run", str(run.line)] + run.words))
+    if run.is_behind_opening:
+        lines.append("behind")
+    if run.fails:
+        lines.append("fails " + " ".join(str(call) for call in run.fails))
+    if run.stop is not None:
+        lines.append("stop %d" % run.stop)
+    lines += ["each %s" % what for what in run.each]
+    lines += asked(run)
+    if run.pick:
+        lines.append(" ".join(["pick"] + [str(word) for word in run.pick]))
+    lines += [wanted_file(file, *told) for file, told in sorted(run.becomes.items())]
+    return [line.rstrip() for line in lines] + ["end %d %s" % (run.end_line, ending(run))]
+
+
 def composed_case(case):
     lines = ["case %d %s" % (case.line, case.name)]
     for run in case.runs:
-        lines.append(" ".join(["run", str(run.line)] + run.words))
-        if run.fails:
-            lines.append("fails " + " ".join(str(call) for call in run.fails))
-        for ask in run.asks:
-            lines.append("in %d %s" % (ask.line, hex_words(ask.text)))
-            if ask.answer:
-                lines.append("out %d %s" % (ask.answer_line, hex_words(ask.answer)))
-        lines.append("end %d %s" % (run.end_line, run.end))
+        lines += composed_run(run)
     return lines + ["done"]
 
 
@@ -154,34 +209,74 @@ def place_of(run, sent):
     return run.end_line, b"", sent[at:]
 
 
-def tried(name, case, run, command):
+def write_files(folder, texts):
+    for file, text in texts.items():
+        with open(os.path.join(folder, PATHS[file]), "wb") as out:
+            out.write(text)
+
+
+def file_text(folder, file):
+    """What a file of a folder has; a file that is not there is an empty one."""
+    path = os.path.join(folder, PATHS[file])
+    if not os.path.exists(path):
+        return b""
+    with open(path, "rb") as found:
+        return found.read()
+
+
+def made(run, command, folder):
+    """A run of a command in a folder with its files."""
+    write_files(folder, run.files)
+    return subprocess.run(command + run.words, input=run.input(), stdout=subprocess.PIPE, stderr=subprocess.PIPE, cwd=folder,
+                          check=False)
+
+
+def tried(place, run, done, folder):
     """What is wrong with a run of a command, or None."""
-    done = subprocess.run(command, input=run.input(), stdout=subprocess.PIPE, stderr=subprocess.PIPE, check=False)
     if done.stdout != run.output():
         line, wanted, came = place_of(run, done.stdout)
-        return "%s:%d: %s: wanted %s, came %s" % (name, line, case.name, hex_words(wanted), hex_words(came))
+        return place % line + "wanted %s, came %s" % (hex_words(wanted), hex_words(came))
     if done.returncode != CODES[run.end]:
-        return "%s:%d: %s: ended with %d, wanted %s" % (name, run.end_line, case.name, done.returncode, run.end)
+        return place % run.end_line + "ended with %d, wanted %s" % (done.returncode, run.end)
+    for file, (line, wanted) in run.becomes.items():
+        came = file_text(folder, file)
+        if came != wanted:
+            return place % line + "%s: wanted %s, came %s" % (PATHS[file], hex_words(wanted), hex_words(came))
     return None
 
 
+def tried_case(name, case, command):
+    """How many of a case's runs were made, and what is wrong with the first that goes wrong. A run whose calls fail is made
+    by no command, and nor is one behind it."""
+    with tempfile.TemporaryDirectory() as folder:
+        for count, run in enumerate(case.runs):
+            if run.is_faulty():
+                return count, None
+            done = made(run, command, folder)
+            fault = tried("%s:%%d: %s: " % (name, case.name), run, done, folder)
+            if fault:
+                return count + 1, fault
+    return len(case.runs), None
+
+
 def try_all(command):
-    is_feed = command[:1] == ["--feed"]
-    command = command[1:] if is_feed else command
+    command = command_of(command)
     count = wrong = left = 0
     for name, cases in all_cases():
         for case in cases:
-            for run in case.runs:
-                if run.fails or (is_feed and run.words != ["feed"]):
-                    left += 1
-                    continue
-                count += 1
-                fault = tried(name, case, run, command if is_feed else command + run.words)
-                if fault:
-                    wrong += 1
-                    print(fault)
+            made_runs, fault = tried_case(name, case, command)
+            count += made_runs
+            left += len(case.runs) - made_runs
+            if fault:
+                wrong += 1
+                print(fault)
     print("%d runs, %d wrong, %d not tried" % (count, wrong, left))
     return 1 if wrong else 0
+
+
+def command_of(words):
+    """A command; a path of a file is one from here, since each run has a folder of its own."""
+    return [os.path.abspath(word) if os.path.exists(word) else word for word in words]
 
 
 # ---- one case by hand
@@ -202,17 +297,22 @@ def write(words):
     return 0
 
 
+def files(words):
+    for run in one_case(words).runs[:1]:
+        write_files(".", run.files)
+    return 0
+
+
 def shown(title, text):
     """Bytes in hex, 32 on a line."""
     lines = textwrap.wrap(text.hex(), 64)
     return "\n".join("    %-8s %s" % ("" if n else title, line) for n, line in enumerate(lines))
 
 
-def read(words):
-    with_bytes = "--bytes" in words
-    case = one_case([word for word in words if word != "--bytes"])
-    asks = [ask for ask in case.runs[0].asks if ask.kind is not None]
-    answers = cut_answers(sys.stdin.buffer.read())
+def say_answers(case, run, text, with_bytes):
+    """The requests of a run and what was answered, in words."""
+    asks = [ask for ask in run.asks if ask.kind is not None]
+    answers = cut_answers(text)
     for ask, (status, body) in zip(asks, answers):
         print("> %s" % ask.words)
         if with_bytes:
@@ -224,19 +324,61 @@ def read(words):
             print("      %s" % line)
     if len(answers) != len(asks):
         print("%d requests, %d answers" % (len(asks), len(answers)))
+
+
+def read(words):
+    with_bytes = "--bytes" in words
+    case = one_case([word for word in words if word != "--bytes"])
+    say_answers(case, case.runs[0], sys.stdin.buffer.read(), with_bytes)
     return 0
 
 
-COMMANDS = {"check": lambda words: check(), "compose": lambda words: compose(), "try": try_all, "write": write,
-            "read": read}
+def say_run(case, run, done, with_bytes):
+    """A run's command line, what was asked and what was answered, and its code where that is not 0."""
+    print("$ %s" % " ".join(["dmnd"] + run.words))
+    if run.words == ["feed"]:
+        say_answers(case, run, done.stdout, with_bytes)
+    else:
+        for ask in run.asks:
+            if ask.text:
+                print("> %s" % ask.words)
+                if with_bytes:
+                    print(shown("sent", ask.text))
+        for line in done.stdout.decode().splitlines():
+            print("  %s" % line)
+    if done.returncode:
+        print("  ended with code %d" % done.returncode)
+
+
+def show(words):
+    """Runs a case, and says it in words. Where a run does not go as wanted, that is said, and the code is 1."""
+    with_bytes = "--bytes" in words
+    place = words.index("--") if "--" in words else len(words)
+    case = one_case([word for word in words[:place] if word != "--bytes"])
+    command = command_of(words[place + 1:])
+    if not command:
+        raise Mistake("a command is wanted behind '--'")
+    with tempfile.TemporaryDirectory() as folder:
+        for run in case.runs:
+            done = made(run, command, folder)
+            say_run(case, run, done, with_bytes)
+            fault = tried("line %d: ", run, done, folder)
+            if fault:
+                print(fault)
+                return 1
+    return 0
+
+
+VERBS = {"check": lambda words: check(), "compose": lambda words: compose(), "try": try_all, "show": show,
+                 "files": files, "write": write, "read": read}
 
 
 def main(words):
-    if not words or words[0] not in COMMANDS or (words[0] in ("try", "write", "read") and len(words) < 2):
+    if not words or words[0] not in VERBS or (words[0] not in ("check", "compose") and len(words) < 2):
         print(__doc__.strip(), file=sys.stderr)
         return 2
     try:
-        return COMMANDS[words[0]](words[1:])
+        return VERBS[words[0]](words[1:])
     except (Mistake, OSError) as mistake:
         print("cases: %s" % mistake, file=sys.stderr)
         return 1

@@ -7,10 +7,6 @@ from wire import (NO_SERVICE, commitment_text, entry_text, first_branch, frame, 
 from words import Mistake, bytes_of
 
 CONNECT, DISCONNECT, TIP, LIST, ROW, PAYEES, MEMBERS, QUORUMS, DIFF, PIN, PAGE, RELEASE = range(1, 13)
-START = 32
-KINDS = {CONNECT: "connect", DISCONNECT: "disconnect", TIP: "tip", LIST: "list", ROW: "row", PAYEES: "payees",
-         MEMBERS: "members", QUORUMS: "quorums", DIFF: "diff", PIN: "pin", PAGE: "page", RELEASE: "release",
-         START: "start"}
 NO_TRANSACTION = 0xFFFFFFFF
 ENTRY_SIZE = 151
 ROW_SIZE = 293
@@ -22,13 +18,12 @@ STATUSES = {
     0: ("Ok", ()), 1: ("Memory", ()), 2: ("BadRequest", (("at", 4),)), 3: ("NotHeld", (("low", 4), ("high", 4))),
     4: ("NoSuch", ()), 5: ("BaseAbove", ()), 6: ("PinsFull", ()), 7: ("PinUnknown", ()), 8: ("Refused", ()),
     9: ("NotTip", (("tip", 32),)), 10: ("AtStart", ()), 11: ("TooDeep", (("floor", 4),)), 12: ("JournalFull", ()),
-    13: ("NotBuilt", ()),
 }
 NUMBERS = {name: number for number, (name, _) in STATUSES.items()}
 OK_FIELDS = {
     CONNECT: (("height", 4), ("hash", 32)), DISCONNECT: (("height", 4), ("hash", 32)),
     TIP: (("height", 4), ("hash", 32), ("low", 4), ("top", 4)), LIST: (("height", 4), ("hash", 32)),
-    PIN: (("pin", 4),), PAGE: (), RELEASE: (), START: (),
+    PIN: (("pin", 4),), PAGE: (), RELEASE: (),
 }
 HASH_LISTS = (PAYEES, MEMBERS)
 

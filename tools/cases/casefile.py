@@ -2,15 +2,24 @@
 
 from dataclasses import dataclass, field
 
-from answers import DIFF, LIST, PAGE, Wanted
-from requests import Step, read_request
+from answers import CONNECT, DIFF, DISCONNECT, LIST, PAGE, Wanted
+from disk import NAMES, Disk, audit_text, tip_text
+from model import KEPT
+from requests import Step, but, read_record, read_request
 from words import Mistake, Words
 
 # The statuses with which the program ends, and their exit codes.
 CODES = {"Done": 0, "Words": 2, "Memory": 3, "DiskFault": 4, "LineFault": 5, "NotJournal": 6, "StartForm": 6,
          "CutInput": 7, "Enough": 8, "AlreadyInit": 9}
+# Those that tell a place.
+PLACED = ("NotJournal", "StartForm")
 # Words that later cases will need; until then no line begins with them.
-RESERVED = ("file", "becomes", "caller", "reply", "stop", "pick", "pieces")
+RESERVED = ("caller", "reply", "pieces")
+PICKS = ("Before", "After", "Fill")
+AUDIT = ("height", "rows", "banned", "root", "records")
+COMMANDS = (CONNECT, DISCONNECT)
+# A frame's kind and length.
+HEAD = 5
 
 
 @dataclass
@@ -25,31 +34,65 @@ class Line:
 
 
 @dataclass
+class Stand:
+    """What a registry is behind some of its commands: the state behind the tip, the number of commands, which heights are
+    held."""
+    state: object
+    records: int
+    low: int
+    top: int
+
+    def shows(self):
+        """What an audit, and then a Tip, sends."""
+        return audit_text(self.state, self.records) + tip_text(self.state, self.low, self.top)
+
+
+@dataclass
 class Ask:
-    """A request's line, its bytes, and the answer that is wanted."""
+    """A request's line, its bytes, and the answer that is wanted; the state that it leaves, where its line stands for
+    several; and where it is a command that is accepted, what then stands."""
     line: int
     words: str
     kind: int
     text: bytes
     answer_line: int = 0
     answer: bytes = None
+    after: object = None
+    stand: Stand = None
+
+    def is_accepted(self):
+        """Whether it is a command that is answered Ok."""
+        return self.kind in COMMANDS and self.answer is not None and self.answer[:1] == b"\0"
 
 
 @dataclass
 class Run:
-    """One run of the program: the words of its command line, what is sent to it, and how it ends."""
+    """One run of the program: the files that are told before it, the words of its command line, which of its calls fail,
+    what is sent to it, how it ends, what a crash then leaves, and the files that are wanted."""
     line: int
     words: list
+    files: dict = field(default_factory=dict)
     fails: list = field(default_factory=list)
+    stop: int = None
+    is_behind_opening: bool = False
+    each: list = field(default_factory=list)
+    stand: Stand = None
     asks: list = field(default_factory=list)
+    pick: list = field(default_factory=list)
+    becomes: dict = field(default_factory=dict)
     end_line: int = 0
     end: str = "Done"
+    at: int = None
+    is_over: bool = False
 
     def input(self):
         return b"".join(ask.text for ask in self.asks)
 
     def output(self):
         return b"".join(ask.answer or b"" for ask in self.asks)
+
+    def is_faulty(self):
+        return bool(self.fails) or self.stop is not None
 
 
 def lines_of(text):
@@ -69,7 +112,7 @@ def lines_of(text):
 
 
 class Case:
-    """A case while its lines are gone through: names of transactions, and the states behind its blocks."""
+    """A case while its lines are gone through: names of transactions, the states behind its blocks, and the files."""
 
     def __init__(self, name, line):
         self.name = name
@@ -78,23 +121,28 @@ class Case:
         self.profile = "small"
         self.first = 0
         self.states = []
+        self.top = 0
         self.height = 0
         self.updates = 0
         self.answers = {}
+        self.disk = Disk()
+        self.told = {}
         self.runs = []
         self.last = None
 
-    def begin(self, profile, state):
-        self.profile = profile
-        self.first = state.height + 1
-        self.states = [state]
+    def begin(self, record):
+        """A registry that was made with this start record."""
+        self.profile = record.profile
+        self.first = record.state.height + 1
+        self.states = [record.state]
+        self.top = record.state.height
 
     def go_back(self):
         self.states.pop()
 
     def tip(self):
         if not self.states:
-            raise Mistake("a block in words needs a start that was answered Ok")
+            raise Mistake("a block in words needs a start")
         return self.states[-1]
 
     def state_at(self, height):
@@ -113,47 +161,196 @@ class Case:
             raise Mistake("there is no block %d" % height)
         return found.hash
 
+    def stand(self, state):
+        """What stands with this state behind the tip, as many commands as are on the disk, and the top."""
+        low = max(self.first - 1, self.top - KEPT[self.profile])
+        return Stand(state, self.disk.records, low, self.top)
+
+    # ---- runs
+
     def run(self, line):
         """The run that goes on, or a first one."""
         if not self.runs:
-            self.runs.append(Run(line, ["feed"]))
+            self.begin_run(line, ["feed"])
         return self.runs[-1]
+
+    def begin_run(self, line, words):
+        self.end_run()
+        run = Run(line, words, self.told)
+        run.stand = self.stand(self.states[-1]) if self.states else None
+        self.told = {}
+        self.last = None
+        self.answers = {}
+        self.runs.append(run)
+
+    def end_run(self):
+        """A run that went well leaves what its commands say; a registry is then made where it was to make one."""
+        if not self.runs or self.runs[-1].is_over:
+            return
+        run = self.runs[-1]
+        run.is_over = True
+        if self.last is not None and self.last.record is not None and run.end == "Done":
+            self.begin(self.last.record)
+            self.disk.begin(self.last.record.text)
+            run.stand = self.stand(self.tip())
+        if run.is_faulty():
+            self.disk.lose()
+        for file, (_, text) in run.becomes.items():
+            self.disk.find(file, text)
+        for file, text in enumerate(self.disk.texts):
+            if text is not None and file not in run.becomes:
+                run.becomes[file] = (run.end_line or run.line, text)
+
+    # ---- lines
 
     def take(self, line):
         """One line of the case."""
         word, _, rest = line.text.partition(" ")
         if word in RESERVED:
             raise Mistake("'%s' is kept for cases of later stages" % word)
-        if word == "run":
-            self.runs.append(Run(line.number, rest.split()))
-            self.last = None
-            self.answers = {}
-        elif word == "fails":
-            self.run(line.number).fails += [int(call) for call in rest.split()]
-        elif word == "ends":
-            if rest not in CODES:
-                raise Mistake("'%s' is no status of the program" % rest)
-            run = self.run(line.number)
-            run.end_line, run.end = line.number, rest
-        elif word == "=":
+        if word == "=":
             self.answer(line)
+        elif word in LINES:
+            words = Words(line.whole(), self)
+            words.wants(word)
+            LINES[word](self, words, line.number)
+            words.ends()
         else:
             self.ask(line)
 
+    def take_run(self, words, number):
+        self.begin_run(number, words.rest())
+
+    def take_start(self, words, _):
+        """The files of a registry that was made with a start record."""
+        self.end_run()
+        record = read_record(words)
+        self.begin(record)
+        self.disk.begin(record.text)
+        self.told = dict(enumerate(self.disk.texts))
+
+    def take_file(self, words, number):
+        """'NAME is BYTES' and 'NAME, but ..' before a run, 'NAME becomes BYTES' behind it."""
+        name = words.next()
+        if name not in NAMES:
+            raise Mistake("a file is %s" % " or ".join(NAMES))
+        file = NAMES.index(name)
+        if words.takes("becomes"):
+            self.run(number).becomes[file] = (number, words.hex())
+            return
+        self.end_run()
+        text = words.hex() if words.takes("is") else self.disk.texts[file]
+        if text is None:
+            raise Mistake("what this file has is not known")
+        while words.takes(",", "but"):
+            text = but(words, text)
+        self.disk.hold(file, text)
+        self.told[file] = text
+
+    def take_stop(self, words, number):
+        run = self.run(number)
+        if words.takes("each"):
+            run.each.append("stop")
+            return
+        run.stop = words.number()
+        run.is_behind_opening = words.takes("behind", "the", "opening")
+
+    def take_fails(self, words, number):
+        run = self.run(number)
+        if words.takes("each"):
+            run.each.append("fail")
+            return
+        while words.peek().isdigit():
+            run.fails.append(words.number())
+        run.is_behind_opening = words.takes("behind", "the", "opening")
+
+    def take_pick(self, words, number):
+        """'Before', 'After' or 'Fill BYTE'; behind it ', with the last command', which was not answered."""
+        pick = words.next()
+        if pick not in PICKS:
+            raise Mistake("a pick is Before, After or Fill")
+        run = self.run(number)
+        run.pick = [pick] + ([words.number()] if pick == "Fill" else [])
+        if words.takes(",", "with", "the", "last", "command"):
+            self.accept(run.asks[-1:])
+
+    def take_ends(self, words, number):
+        run = self.run(number)
+        run.end_line, run.end = number, words.next()
+        if run.end not in CODES:
+            raise Mistake("'%s' is no status of the program" % run.end)
+        if run.end in PLACED:
+            words.wants("at")
+            run.at = words.number()
+
     def ask(self, line):
+        run = self.run(line.number)
+        if run.is_over:
+            raise Mistake("files are told before the run that begins with them")
         request = self.last = read_request(Words(line.whole(), self), self)
         steps = request.steps or [Step(line.whole(), request.text)]
-        self.run(line.number).asks += [Ask(line.number, step.words, request.kind, step.text) for step in steps]
+        run.asks += [Ask(line.number, step.words, request.kind, step.text, after=step.after) for step in steps]
 
     def answer(self, line):
-        if self.last is None or self.runs[-1].asks[-1].answer is not None:
+        run = self.run(line.number)
+        if run.words == ["audit"]:
+            run.asks.append(self.audit(line))
+            return
+        if self.last is None or not run.asks or run.asks[-1].answer is not None:
             raise Mistake("an answer stands behind its request")
         wanted = self.wanted(line)
-        for ask, answer in zip(self.runs[-1].asks[-len(wanted):], wanted):
+        asks = run.asks[-len(wanted):]
+        for ask, answer in zip(asks, wanted):
             ask.answer_line, ask.answer = line.number, answer
             self.answers[ask.text] = answer
         if answer[:1] == b"\0":
-            self.last.accepted()
+            self.accept(asks)
+
+    def accept(self, asks):
+        """What was asked last is answered Ok: a command is on the disk then."""
+        self.last.accepted()
+        for ask in asks:
+            if ask.kind in COMMANDS:
+                ask.stand = self.stand_behind(ask)
+
+    def stand_behind(self, ask):
+        self.disk.append(ask.kind, ask.text[HEAD:])
+        state = ask.after or (self.tip() if self.last.moves else None)
+        if state is None:
+            return None
+        self.top = max(self.top, state.height)
+        return self.stand(state)
+
+    def accept_last(self):
+        """Where no answers are told, as in a sample, each block is taken to be accepted."""
+        if self.last is not None and self.last.kind is not None and self.runs[-1].asks[-1].answer is None:
+            count = max(1, len(self.last.steps))
+            self.accept(self.runs[-1].asks[-count:])
+            self.last = None
+
+    def audit(self, line):
+        """'height H, rows R, banned B, root HASH, records N', or 'right' for what the case's words say."""
+        words = Words(line.whole(), self)
+        words.wants("=")
+        run = self.runs[-1]
+        if words.takes("nothing"):
+            text = b""
+        elif words.takes("bytes"):
+            text = words.hex()
+        elif words.takes("right"):
+            text = audit_text(self.tip(), self.disk.records)
+        else:
+            text = "".join(self.audit_line(words, name) for name in AUDIT).encode()
+        words.ends()
+        return Ask(line.number, "audit", None, b"", line.number, text)
+
+    def audit_line(self, words, name):
+        if name != AUDIT[0]:
+            words.wants(",")
+        words.wants(name)
+        if name != "root":
+            return "%s %d\n" % (name, words.number())
+        return "root %s\n" % (self.tip().root() if words.takes("right") else words.hash()).hex()
 
     def wanted(self, line):
         """The answers to what was asked last. Below that to a list stand its entries."""
@@ -176,25 +373,25 @@ class Case:
         return self.answers[text]
 
     def finish(self, needs_answers):
+        self.end_run()
+        if self.told:
+            raise Mistake("files are told, and no run begins with them")
         for run in self.runs:
             for ask in run.asks:
                 if ask.answer is None and ask.kind is not None and needs_answers:
                     raise Mistake("line %d: no answer is told" % ask.line)
-                run.end_line = run.end_line or self.line
+            run.end_line = run.end_line or self.line
 
 
-def accept_as_it_stands(case):
-    """Where no answers are told, as in a sample, each start and block is taken to be accepted."""
-    if case.last is not None and case.runs and case.runs[-1].asks and case.runs[-1].asks[-1].answer is None:
-        case.last.accepted()
-        case.last = None
+LINES = {"run": Case.take_run, "start": Case.take_start, "file": Case.take_file, "stop": Case.take_stop,
+         "fails": Case.take_fails, "pick": Case.take_pick, "ends": Case.take_ends}
 
 
 def take_lines(case, lines, needs_answers):
     for line in lines:
         try:
             if not needs_answers and not line.text.startswith("="):
-                accept_as_it_stands(case)
+                case.accept_last()
             case.take(line)
         except (Mistake, ValueError, KeyError, IndexError, OverflowError) as mistake:
             raise Mistake("line %d: %s" % (line.number, mistake)) from mistake

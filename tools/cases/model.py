@@ -11,6 +11,8 @@ CONFIRM = 16
 NO_PAY = (0, bytes(20))
 PORTS = {"small": 19_999, "main": 9_999}
 PROFILES = {"small": 1, "main": 2}
+# How many heights below the top are held.
+KEPT = {"small": 20, "main": 400}
 
 
 @dataclass

@@ -2,7 +2,7 @@
 
 from dataclasses import dataclass
 
-from answers import CONNECT, DIFF, DISCONNECT, LIST, MEMBERS, PAGE, PAYEES, PIN, QUORUMS, RELEASE, ROW, START, TIP
+from answers import CONNECT, DIFF, DISCONNECT, LIST, MEMBERS, PAGE, PAYEES, PIN, QUORUMS, RELEASE, ROW, TIP
 from blocks import Block
 from model import PROFILES, State
 from wire import frame, number, pay_of, pay_text, point_text
@@ -11,26 +11,37 @@ from words import Mistake, Words, bytes_of
 
 @dataclass
 class Step:
-    """One request of several: its words, its bytes on the line, and the answer that is wanted."""
+    """One request of several: its words, its bytes on the line, the answer that is wanted, and the state that it leaves."""
     words: str
     text: bytes
     answer: bytes = b""
+    after: object = None
+
+
+@dataclass
+class Record:
+    """A start record: its text, the profile, and the state before the first height."""
+    text: bytes
+    profile: str
+    state: State
 
 
 class Request:
     """A request: its kind, its bytes on the line, and what follows for the case where it is answered Ok. Where its words
-    stand for several requests, each of which is to be answered Ok, these are its steps."""
+    stand for several requests, each of which is to be answered Ok, these are its steps. What 'init' reads is a record."""
 
-    def __init__(self, kind, text, block=None, accepted=None, steps=()):
+    def __init__(self, kind, text, block=None, accepted=None, steps=(), record=None):
         self.kind = kind
         self.text = text
         self.block = block
+        self.moves = accepted is not None
         self.accepted = accepted or (lambda: None)
         self.steps = list(steps)
+        self.record = record
 
 
-def start(words, case):
-    """'start PROFILE FIRST HASH', and behind commas the outputs: 'POINT to SCRIPT'."""
+def read_record(words):
+    """'PROFILE FIRST HASH', and behind commas the outputs: 'POINT to SCRIPT'."""
     profile = words.next()
     if profile not in PROFILES:
         raise Mistake("a profile is small or main")
@@ -44,7 +55,7 @@ def start(words, case):
         outputs.append((point, pay_of(words.script())))
     body = number(1, 2) + number(PROFILES[profile], 1) + number(first, 4) + before + number(len(outputs), 4)
     body += b"".join(point_text(point) + pay_text(pay) for point, pay in outputs)
-    return START, body, None, lambda: case.begin(profile, State(first - 1, before, {}, dict(outputs)))
+    return Record(body, profile, State(first - 1, before, {}, dict(outputs)))
 
 
 def block(words, case):
@@ -73,7 +84,7 @@ def fields(kind, *sizes):
 
 
 READERS = {
-    "start": start, "block": block, "connect": connect, "disconnect": disconnect, "frame": frame_of,
+    "block": block, "connect": connect, "disconnect": disconnect, "frame": frame_of,
     "tip": fields(TIP), "list": fields(LIST, 4), "row": fields(ROW, 4, 32), "payees": fields(PAYEES, 4, 2),
     "members": fields(MEMBERS, 1, 4), "quorums": fields(QUORUMS, 4), "diff": fields(DIFF, 32, 32),
     "pin": fields(PIN, 4), "page": fields(PAGE, 4, 4, 2), "release": fields(RELEASE, 4),
@@ -82,7 +93,7 @@ READERS = {
 
 def moves_to(state, words, kind, body):
     """A request that makes this state the tip, and is answered so."""
-    return Step(words, frame(kind, body), frame(0, number(state.height, 4) + state.hash))
+    return Step(words, frame(kind, body), frame(0, number(state.height, 4) + state.hash), state)
 
 
 def blocks(words, case):
@@ -131,6 +142,12 @@ def read_request(words, case):
         text = words.hex()
         words.ends()
         return Request(None, text)
+    if word == "record":
+        record = read_record(words)
+        while words.takes(",", "but"):
+            record.text = but(words, record.text)
+        words.ends()
+        return Request(None, record.text, record=record)
     if word in REPEATED:
         kind, read = REPEATED[word]
         request = Request(kind, b"", steps=read(words, case))

@@ -70,6 +70,11 @@ class Words:
         self.at += 1
         return self.words[self.at - 1]
 
+    def rest(self):
+        """All words that are left."""
+        rest, self.at = self.words[self.at:], len(self.words)
+        return rest
+
     def takes(self, *words):
         """Whether these words come next; then they are passed."""
         if self.words[self.at:self.at + len(words)] != list(words):

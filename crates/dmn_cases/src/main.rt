@@ -3,7 +3,11 @@
 //! The cases lie in files beside the program; `files.txt` names them. A tool composes them from the words in `cases/`.
 #![tactic(auto)]
 
+mod calls;
+mod difference;
+mod ending;
 mod file;
+mod files;
 mod run;
 mod texts;
 mod trouble;

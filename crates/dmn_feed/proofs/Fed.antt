@@ -24,7 +24,7 @@ use Rattle.dmn_feed.specs.Outcome.{Answered, InHand, IsLasting, Sent, SentBefore
 use Rattle.dmn_feed.specs.Serving.{MayAnswer, Serves}
 use Rattle.dmn_feed.specs.Steps.{IsStill, MayBreak, SentFewer, SentLater, Turned}
 
-Begins-more : (text : List ℕ) (frames : List Frame) (left : List ℕ) (frame : Frame) (after : List ℕ) → Begins text frames left → frame_at left ≡ Some (frame, after) → Begins text (frames ++ frame ∷ []) after
+pub Begins-more : (text : List ℕ) (frames : List Frame) (left : List ℕ) (frame : Frame) (after : List ℕ) → Begins text frames left → frame_at left ≡ Some (frame, after) → Begins text (frames ++ frame ∷ []) after
 Begins-more text [] left frame after b e = (after, ap frame_at (sym b) ∙ e, refl)
 Begins-more text (f ∷ frames) left frame after b e = (b.0, b.1, Begins-more b.0 frames left frame after b.2 e)
 
@@ -36,7 +36,7 @@ serves_map P Q m (frame ∷ frames) (answer ∷ answers) moments n f s = (s.0, s
 serves_map P Q m [] (answer ∷ answers) moments n f s = absurd s
 serves_map P Q m (frame ∷ frames) [] moments n f s = absurd s
 
-serves_more : (P : Machine → ℕ → Type 0) (m : Machine) (frames : List Frame) (answers : List Answer) (moments : List ℕ) (n : Machine) (frame : Frame) (answer : Answer) (here : List ℕ) (o : Machine)
+pub serves_more : (P : Machine → ℕ → Type 0) (m : Machine) (frames : List Frame) (answers : List Answer) (moments : List ℕ) (n : Machine) (frame : Frame) (answer : Answer) (here : List ℕ) (o : Machine)
     → Serves P m frames answers moments n → MayAnswer n frame answer o → length here ≡ length (frame_of answer) → All (P o) here → Serves P m (frames ++ frame ∷ []) (answers ++ answer ∷ []) (moments ++ here) o
 serves_more P m [] [] moments n frame answer here o s may count all =
     (o, here, [], subst (λ (k : Machine). MayAnswer k frame answer o) s.0 may, ap (λ (l : List ℕ). l ++ here) s.1 ∙ sym (append-nil here), count, all, (refl, refl))

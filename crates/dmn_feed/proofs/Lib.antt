@@ -5,6 +5,7 @@ mod Fronts
 mod Growing
 mod Opened
 mod Replying
+mod Spending
 mod Stamping
 mod Standing
 mod Telling

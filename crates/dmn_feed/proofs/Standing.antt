@@ -22,7 +22,7 @@ use Rattle.dmn_outside.specs.Crashes.{LeavesOnly}
 use Rattle.dmn_outside.specs.Disk.{AreOver, DiskView}
 use Rattle.dmn_outside.specs.declared.device.DiskFault.{DiskFault}
 use Rattle.dmn_outside.proofs.Crash.{widened}
-use Rattle.dmn_journal.specs.Journal.{Entry}
+use Rattle.dmn_journal.specs.Journal.{Entry, size_of_record}
 use Rattle.dmn_journal.specs.Reading.{entry_departs}
 use Rattle.dmn_desk.specs.declared.answer.Answer.{Answer}
 use Rattle.dmn_desk.specs.declared.answer.Answer.TheVariants.{Short}
@@ -32,7 +32,7 @@ use Rattle.dmn_desk.specs.declared.kind.Kind.TheVariants as kinds
 use Rattle.dmn_desk.specs.declared.request.Request.{Request}
 use Rattle.dmn_desk.specs.declared.request.Request.TheVariants as requests
 use Rattle.dmn_desk.specs.Ask.{answer_of, answered, ask, asked_by, asked_kind, connect, connected, disconnect, disconnected, not_connected, not_disconnected, pin, pinned_by, release, shortly}
-use Rattle.dmn_desk.specs.Asked.{Answers, IsIdle, MayHold, OrMemory, entry_by}
+use Rattle.dmn_desk.specs.Asked.{Answers, HasRoom, IsIdle, MayHold, OrMemory, entry_by}
 use Rattle.dmn_desk.specs.Kinds.{kind_of, reading_of, takes_no_memory}
 use Rattle.dmn_desk.specs.Requests.{IsRequest, kind_by, request_of}
 use Rattle.dmn_desk.specs.declared.desk.Desk.{Desk}
@@ -53,6 +53,7 @@ use Rattle.dmn_registry.specs.Own.{IsBetween, IsOwn, Leads, OwnWith, StandsOn}
 use Rattle.dmn_registry.proofs.Between.{between_command, between_refused, between_self, between_to, earlier, leads_one, leads_pins, leads_self, unmoved}
 use Rattle.dmn_feed.specs.declared.office.Office.{Office}
 use Rattle.dmn_feed.specs.Offices.{Breaks, Decides, GoesOn, Gives, StandsAt}
+use Rattle.dmn_feed.specs.Room.{HasPlace}
 use Rattle.dmn_feed.specs.Steps.{Asks, MayBreak, MayServe, some_of}
 use Rattle.dmn_outside.specs.Line.{Talk}
 use Rattle.dmn_outside.specs.Pieces.{Took}
@@ -454,6 +455,29 @@ module _ (number size : ℕ) (kept : List ℕ) (kind : Kind) (request : Request)
       entry_of_request (requests.Page pin from count) entry k read e = absurd (cc e)
       entry_of_request (requests.Release pin) entry k read e = absurd (cc e)
       entry_of_request (requests.Diff base block) entry k read e = absurd (cc e)
+
+  -- what has its place has room
+  pub request_room : (end room : ℕ) → HasPlace (record { kind = number; body = kept }) end room → HasRoom (entry_by request) end room
+  request_room end room place = by_request request refl
+    where
+      placed : (entry : Entry) → entry_by request ≡ Some entry → entry_departs entry ≡ None → end + 1 + size_of_record entry ≤ room
+      placed entry e form =
+          let same = entry_is entry e in
+          subst (λ (x : Entry). end + 1 + size_of_record x ≤ room) (sym same) (place (subst (λ (x : Entry). entry_departs x ≡ None) same form))
+
+      by_request : (r : Request) → request ≡ r → HasRoom (entry_by r) end room
+      by_request (requests.Connect block body) e = placed (connecting body) (ap entry_by e) (connect_form body (short_body block body e))
+      by_request (requests.Disconnect hash) e = placed (disconnecting hash) (ap entry_by e) (disconnect_form hash (long_hash hash e))
+      by_request requests.Tip e = tt
+      by_request (requests.List height) e = tt
+      by_request (requests.Row height hash) e = tt
+      by_request (requests.Payees height count) e = tt
+      by_request (requests.Members base height) e = tt
+      by_request (requests.Quorums height) e = tt
+      by_request (requests.Pin height) e = tt
+      by_request (requests.Page pin from count) e = tt
+      by_request (requests.Release pin) e = tt
+      by_request (requests.Diff base block) e = tt
 
   -- the disk failed
   request_breaks : (fault : DiskFault) → ((m : Machine) → StandsOn registry m before.told → LeavesOnly t before after (MayHold m (entry_by request))) → Gives (Err fault) number size kept t before after (record { desk = old; registry = registry }) (record { desk = next; registry = behind })

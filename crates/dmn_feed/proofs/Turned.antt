@@ -106,7 +106,7 @@ module _ (stamped : Bool) (t later : ℕ) (before mid after : DiskView) (office 
   turn_stops stops.LineFault asks = inl (faulted_within kind size x.talk h.talk a.talk head asks.0, asks.1 ∙ same, still)
   turn_stops stops.DiskFault asks = (record { kind = kind; body = take size h.talk.left }, a.talk.left, front_is kind size x.talk h.talk a.talk head asks.0, break_earlier t later before mid after office le over same (record { kind = kind; body = take size h.talk.left }) asks.1, taken kind size x.talk h.talk a.talk head asks.0, still)
 
-  turned : (answer : Answer) (left : List ℕ) → Fits answer → Took size h.talk a.talk → MayServe later mid after office (record { kind = kind; body = take size h.talk.left }) answer new → left ≡ a.talk.left → Turned t before after office answer new x.talk.left left
+  pub turned : (answer : Answer) (left : List ℕ) → Fits answer → Took size h.talk a.talk → MayServe later mid after office (record { kind = kind; body = take size h.talk.left }) answer new → left ≡ a.talk.left → Turned t before after office answer new x.talk.left left
   turned answer left fits took may is = record {
     frame = record { kind = kind; body = take size h.talk.left };
     front = front_is kind size x.talk h.talk a.talk head took ∙ ap (λ (l : List ℕ). Some (record { kind = kind; body = take size h.talk.left }, l)) (sym is);

@@ -6,3 +6,4 @@
 --   Stamps    when answers are sent: each behind the moment at which its turn began
 --   Offices   for which machine a desk and its registry stand, and how much of a frame's body they read
 --   Steps     what the private parts of a turn do
+--   Room      over a station that tells how much it has room for: what suffices, and that no call fails then

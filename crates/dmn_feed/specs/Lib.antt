@@ -5,3 +5,4 @@ pub mod Laws
 pub mod Stamps
 pub mod Offices
 pub mod Steps
+pub mod Room

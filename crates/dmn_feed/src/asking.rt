@@ -4,6 +4,7 @@ ghost use Rattle.std.specs.Prelude.{◌≡◌, ◌≤◌, true, false, IfOk, IfS
 ghost use Rattle.dmn_outside.specs.Counts.{Rose};
 ghost use Rattle.dmn_outside.specs.Later.{IsQuiet};
 ghost use Rattle.dmn_desk.specs.Texts.{IsBounded};
+ghost use Rattle.dmn_feed.specs.Room.{AsksSurely, HasPlaceBody};
 ghost use Rattle.dmn_feed.specs.Steps.{Asks, some_of};
 ghost use Rattle.dmn_feed.specs.declared.asking.Stop.TheVariants.{DiskFault as DiskStop, LineFault as LineStop};
 
@@ -45,6 +46,8 @@ pub fn ask<T: Station>(
     ensures line_fault { IsErrOf result Stop.LineFault → Rose (T.line station.old).faults (T.line station.new).faults }
     ensures disk_later { (T.disk station.old).faults ≤ (T.disk station.new).faults }
     ensures disk_fault { IsErrOf result Stop.DiskFault → Rose (T.disk station.old).faults (T.disk station.new).faults }
+    ensures sure { T.tells ≡ true → T.tells_room ≡ true → HasPlaceBody kind size (T.line station.old).talk.left office.old.registry.journal.end (T.disk station.old).room
+        → AsksSurely result (T.room station.old) (T.room station.new) (T.line station.old) (T.line station.new) (T.disk station.old) (T.disk station.new) }
 {
     let reading = reading_of(kind, size);
     match read_body(alloc, station, reading, size as usize) {

@@ -11,6 +11,7 @@ ghost use Rattle.dmn_registry.specs.Own.{IsOwn};
 ghost use Rattle.dmn_feed.specs.Laws.{EndsExactly};
 ghost use Rattle.dmn_feed.specs.Offices.{StandsAt};
 ghost use Rattle.dmn_feed.specs.Outcome.{IsRunning, NotJournalTells, OfFeed, Outcome};
+ghost use Rattle.dmn_feed.specs.Room.{EndsSurely, HasPlaceNext, NeverFaults, Suffices, TurnsSurely};
 ghost use Rattle.dmn_feed.specs.Stamps.{SentInTurns};
 ghost use Rattle.dmn_feed.specs.Steps.{Turns};
 
@@ -53,6 +54,8 @@ fn serve_frame<T: Station>(
     ensures line_fault { IsErrOf result Stop.LineFault → Rose (T.line station.old).faults (T.line station.new).faults }
     ensures disk_later { (T.disk station.old).faults ≤ (T.disk station.new).faults }
     ensures disk_fault { IsErrOf result Stop.DiskFault → Rose (T.disk station.old).faults (T.disk station.new).faults }
+    ensures sure { T.tells ≡ true → T.tells_room ≡ true → HasPlaceNext (T.line station.old).talk.left office.old.registry.journal.end (T.disk station.old).room
+        → TurnsSurely result (T.time station.old) office.old office.new (T.room station.old) (T.room station.new) (T.line station.old) (T.line station.new) (T.disk station.old) (T.disk station.new) }
 {
     match read_head(station) {
         Err(Failed) => Err(Stop::LineFault),
@@ -85,6 +88,8 @@ fn run<T: Station>(alloc: Global, station: &mut T, office: &mut Office) -> Statu
     ensures line_fault { result ≡ Status.LineFault → Rose (T.line station.old).faults (T.line station.new).faults }
     ensures disk_later { (T.disk station.old).faults ≤ (T.disk station.new).faults }
     ensures disk_fault { result ≡ Status.DiskFault → Rose (T.disk station.old).faults (T.disk station.new).faults }
+    ensures sure { T.tells ≡ true → T.tells_room ≡ true → (m : Machine) → StandsAt office.old m (T.disk station.old).told → Suffices m (T.room station.old) (T.disk station.old).room (T.line station.old).talk.left
+        → NeverFaults result (T.line station.old) (T.line station.new) (T.disk station.old) (T.disk station.new) }
 {
     'run: for _ in 0..MOST_FRAMES {
         match serve_frame(alloc, station, office) {
@@ -125,6 +130,11 @@ pub fn feed<T: Station>(alloc: Global, station: &mut T) -> Status
     ensures line_fault { result ≡ Status.LineFault → Rose (T.line station.old).faults (T.line station.new).faults }
     ensures disk_later { (T.disk station.old).faults ≤ (T.disk station.new).faults }
     ensures disk_fault { result ≡ Status.DiskFault → Rose (T.disk station.old).faults (T.disk station.new).faults }
+
+    // Over a station that tells how many bytes more may be sent and how long a file may be, where that is enough for whatever
+    // may be answered and kept: no count of faults rises, and the run ends as its text says, unless memory to start is wanting.
+    ensures sure { T.tells ≡ true → T.tells_room ≡ true → (m : Machine) → IsKnown (IsOwn m) (T.disk station.old).told → Suffices (at_rest m) (T.room station.old) (T.disk station.old).room (T.line station.old).talk.left
+        → EndsSurely result (T.line station.old) (T.line station.new) (T.disk station.old) (T.disk station.new) }
 {
     let Ok(desk) = Desk::new(alloc) else {
         return Status::Memory;

@@ -2,8 +2,10 @@
 
 ghost use Rattle.std.specs.Prelude.{◌≡◌, ◌≤◌, true, false, length, IfOk, IsErr, OnOk};
 ghost use Rattle.dmn_outside.specs.Counts.{Rose};
+ghost use Rattle.dmn_desk.specs.Asked.{AnswersSurely};
 ghost use Rattle.dmn_desk.specs.Texts.{IsBounded};
 ghost use Rattle.dmn_feed.specs.Offices.{Decides, Gives};
+ghost use Rattle.dmn_feed.specs.Room.{HasPlaceKept};
 
 use dmn_desk::{Answer, Desk, Kind, RequestFault, ShortAnswer, read_request};
 use dmn_frames::{HEAD, LONGEST_BODY, Reading};
@@ -47,9 +49,11 @@ impl Office {
         ensures bounded { IfOk result IsBounded }
         ensures usable { OnOk result (self.new.registry.spent ≡ false) }
         ensures line { D.line disk.new ≡ D.line disk.old }
+        ensures room { D.room disk.new ≡ D.room disk.old }
         ensures time { D.time disk.old ≤ D.time disk.new }
         ensures later { (D.disk disk.old).faults ≤ (D.disk disk.new).faults }
         ensures fault { IsErr result → Rose (D.disk disk.old).faults (D.disk disk.new).faults }
+        ensures sure { D.tells_room ≡ true → HasPlaceKept number size kept.now self.old.registry.journal.end (D.disk disk.old).room → AnswersSurely result (D.disk disk.old) (D.disk disk.new) }
     {
         if size > LONGEST_BODY {
             return Ok(Answer::Short(ShortAnswer::BadRequest { at: 1 }));

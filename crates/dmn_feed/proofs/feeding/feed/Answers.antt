@@ -1,4 +1,4 @@
-use Rattle.std.proofs.Common.{refl, subst, sym}
+use Rattle.std.proofs.Common.{◌∙◌, ap, refl, subst, sym}
 use Rattle.dmn_outside.specs.Line.{LineView}
 use Rattle.dmn_registry.specs.Machine.{at_rest, state_of}
 use Rattle.dmn_feed.specs.Offices.{StandsAt}
@@ -6,6 +6,10 @@ use Rattle.dmn_feed.specs.Outcome.{Outcome}
 use Rattle.dmn_feed.specs.Stamps.{SentInTurns}
 use Rattle.dmn_feed.proofs.Opened.{broken_opening, lacks_before, opened, outcome_earlier}
 use Rattle.dmn_feed.proofs.Stamping.{turns_earlier, turns_none}
+use Rattle.std.specs.Prelude.{Err}
+use Rattle.dmn_frames.specs.Frames.{Cuts}
+use Rattle.dmn_feed.specs.Room.{Suffices}
+use Rattle.dmn_feed.proofs.Ending.{statuses_are_exact}
 use Rattle.dmn_feed.proofs.feeding.feed.Goals as goal
 
 pub returns-in_default-clause-outcome : goal.returns-in_default-clause-outcome
@@ -40,3 +44,42 @@ returns-clause-outcome g c = λ tells m known.
 pub returns-clause-in_turns : goal.returns-clause-in_turns
 returns-clause-in_turns g c = λ tells stamped.
     turns_earlier _ _ _ _ _ c.open.ensures.time (subst (λ (v : LineView). SentInTurns (g.T.Device.time c.open.new.disk) (g.T.Device.time c.run.new.station) v (g.T.Device.line c.run.new.station)) c.open.ensures.line (c.run.ensures.in_turns tells stamped))
+
+pub returns-in_default-clause-sure : goal.returns-in_default-clause-sure
+returns-in_default-clause-sure g c = λ tells told m known enough. record {
+  never = record { line_runs = λ e. cc; disk_runs = λ e. cc; line_faults = refl; disk_faults = refl };
+  callers = refl;
+  status_is = λ runs frames left cut. absurd (runs refl);
+}
+
+pub returns-in-Err-NotJournal-clause-sure : goal.returns-in-Err-NotJournal-clause-sure
+returns-in-Err-NotJournal-clause-sure g c = λ tells told m known enough. absurd (rw c.in-Err-NotJournal.field-0-is at (c.in-Err-NotJournal.ensures.recovers m known))
+
+pub returns-in-Err-DiskFault-clause-sure : goal.returns-in-Err-DiskFault-clause-sure
+returns-in-Err-DiskFault-clause-sure g c = λ tells told m known enough. absurd ((c.in-Err-DiskFault.ensures.sure told).answer (ap Err c.in-Err-DiskFault.field-0-is))
+
+pub returns-in-Err-Memory-clause-sure : goal.returns-in-Err-Memory-clause-sure
+returns-in-Err-Memory-clause-sure g c = λ tells told m known enough. record {
+  never = record { line_runs = λ e. cc; disk_runs = λ e. cc; line_faults = ap (λ (v : LineView). v.faults) c.open.ensures.line; disk_faults = (c.in-Err-Memory.ensures.sure told).disk.faults };
+  callers = ap (λ (v : LineView). v.caller_faults) c.open.ensures.line;
+  status_is = λ runs frames left cut. absurd (runs refl);
+}
+
+pub returns-clause-sure : goal.returns-clause-sure
+returns-clause-sure g c = λ tells told m known enough.
+    let kept = (c.in-Ok-open.ensures.sure told).disk in
+    let stands : StandsAt (record { desk = c.in-Ok.desk; registry = c.in-Ok-open.registry }) (at_rest m) (g.T.Device.disk c.open.new.disk).told = record { registry = c.in-Ok-open.ensures.recovers m known; desk = c.in-Ok.ensures (state_of (at_rest m)) } in
+    let still : Suffices (at_rest m) (g.T.Device.room c.open.new.disk) (g.T.Device.disk c.open.new.disk).room (g.T.Device.line c.open.new.disk).talk.left = rw (c.open.ensures.room, kept.room, c.open.ensures.line) enough in
+    let never = c.run.ensures.sure tells told (at_rest m) stands still in
+    record {
+      never = record {
+        line_runs = never.line_runs;
+        disk_runs = never.disk_runs;
+        line_faults = never.line_faults ∙ ap (λ (v : LineView). v.faults) c.open.ensures.line;
+        disk_faults = never.disk_faults ∙ kept.faults;
+      };
+      callers = c.run.ensures.later.callers ∙ ap (λ (v : LineView). v.caller_faults) c.open.ensures.line;
+      status_is = λ runs frames left cut.
+          let here : Cuts (g.T.Device.line c.open.new.disk).talk.left frames left = rw c.open.ensures.line cut in
+          (statuses_are_exact c.run.result _ _ _ _ _ _ _ frames left (c.run.ensures.outcome tells (at_rest m) stands) here).1 never.line_runs never.disk_runs runs;
+    }

@@ -1,6 +1,6 @@
 use Rattle.std.proofs.Common.{◌≡◌, ◌≤◌, arith, sym, ap, ◌∙◌, subst, Result, false}
 use Rattle.dmn_desk.specs.Kinds.{kind_of, takes_no_memory}
-use Rattle.dmn_feed.proofs.Standing.{fault_answer, gives_idle, gives_memory, long_answer, request_does, unknown_answer}
+use Rattle.dmn_feed.proofs.Standing.{fault_answer, gives_idle, gives_memory, long_answer, request_does, request_room, unknown_answer}
 use Rattle.dmn_feed.proofs.office.Office.answer.Goals as goal
 
 pub returns-then-size-gt-LONGEST_BODY-clause-gives : goal.returns-then-size-gt-LONGEST_BODY-clause-gives
@@ -26,3 +26,8 @@ returns-in-Err-Memory-clause-gives g c =
     let connects = c.in-Err-Memory.ensures.memory c.in-Err-Memory.field-0-is in
     let free : takes_no_memory (kind_of c.args.number) ≡ false = rw (known, connects) Rattle.std.proofs.Common.refl in
     gives_memory c.args.number c.args.size c.args.kept.now _ _ _ (g.D.Device.past_is_over c.args.disk.now) free
+
+pub returns-in-Ok-clause-sure : goal.returns-in-Ok-clause-sure
+returns-in-Ok-clause-sure g c = λ told place. c.answer.ensures.sure told
+    (request_room c.args.number c.args.size c.args.kept.now c.in-Some.kind c.in-Ok.request (g.D.Device.time c.args.disk.now) (g.D.Device.disk c.args.disk.now) (g.D.Device.disk c.answer.new.disk) c.args.self.now.desk c.answer.new.self c.args.self.now.registry c.answer.new.registry
+    c.if-size-gt-LONGEST_BODY.false c.requires.fits (sym c.of.ensures ∙ c.in-Some.is) c.in-Ok.ensures.told (c.in-Ok.ensures.keeps (omega (arith, c.requires.fits, c.if-size-gt-LONGEST_BODY.false))) (g.D.Device.past_is_over c.args.disk.now) c.args.self.now.registry.journal.end (g.D.Device.disk c.args.disk.now).room (place c.if-size-gt-LONGEST_BODY.false))

@@ -1,6 +1,6 @@
 -- What a run has read, written and sent, by its command. Of a station each command sees what is told of its disk and its line
 -- before and behind the run, and when the run began and ended.
-use Rattle.std.specs.Prelude.{◌≡◌, ◌⊎◌, ℕ, Bool, true, List}
+use Rattle.std.specs.Prelude.{◌≡◌, ◌⊎◌, ℕ, ◌+◌, ◌≤◌, Bool, true, List, length}
 use Rattle.dmn_outside.specs.Changes.{OnlyReads}
 use Rattle.dmn_outside.specs.Counts.{Rose}
 use Rattle.dmn_outside.specs.Crashes.{IsKnown, LeavesOnly}
@@ -8,6 +8,7 @@ use Rattle.dmn_outside.specs.Disk.{DiskView, IfReads}
 use Rattle.dmn_outside.specs.Line.{LineView}
 use Rattle.dmn_journal.specs.Create.{IsBlank, IsBlankDisk}
 use Rattle.dmn_frames.specs.Frames.{Cuts, Frame}
+use Rattle.dmn_registry.specs.Audits.{audit_of}
 use Rattle.dmn_registry.specs.Machine.{Machine, at_rest}
 use Rattle.dmn_registry.specs.Own.{IsOwn}
 use Rattle.dmn_rows.specs.Defs.{IsStartText}
@@ -15,20 +16,25 @@ use Rattle.dmn_rows.specs.declared.start.StartRecord.{StartRecord}
 use Rattle.dmn_init.specs.Init as inits
 use Rattle.dmn_feed.specs.Laws as feed_laws
 use Rattle.dmn_feed.specs.Outcome as feeds
+use Rattle.dmn_feed.specs.Room as feed_room
 use Rattle.dmn_feed.specs.Stamps.{SentInTurns}
 use Rattle.dmn_audit.specs.Outcome as audits
+use Rattle.dmn_audit.specs.Text.{audit_text}
 use Rattle.dmn_light.specs.Laws as client_laws
 use Rattle.dmn_light.specs.Outcome as clients
+use Rattle.dmn_light.specs.Room as client_room
 use Rattle.dmn_status.specs.declared.status.Status.{Status}
 use Rattle.dmn_status.specs.declared.status.Status.TheVariants as statuses
 use Rattle.dmn_commands.specs.declared.command.Command.{Command}
 use Rattle.dmn_commands.specs.declared.command.Command.TheVariants.{Audit, Client, Feed, Init}
 
--- a run over a station: whether it tells its contents, and their moments; when the run began and ended; the disk and the line
--- before and behind it
+-- a run over a station: whether it tells its contents, their moments, and its room; how many bytes more could be sent when it
+-- began; when it began and ended; the disk and the line before and behind it
 pub record Run : Type 0 where
   pub tells : Bool
   pub stamped : Bool
+  pub tells_room : Bool
+  pub room : ℕ
   pub started : ℕ
   pub ended : ℕ
   pub before : DiskView
@@ -52,6 +58,8 @@ pub record RunsInit (status : Status) (run : Run) : Type 0 where
   pub moments : IsBlankDisk run.before.told → LeavesOnly run.started run.before run.behind (inits.IsBlankOrMade run.tells run.old.talk.left)
   -- on a blank disk, with a start record, the end is Done or Memory
   pub complete : run.tells ≡ true → IfReads run.before.told (λ all. IsBlank all.zeroth) → (start : StartRecord) → IsStartText run.old.talk.left start → IsCalm run → inits.EndsWell status
+  -- where a file may be as long as the journal, no count of faults rises
+  pub sure : run.tells ≡ true → run.tells_room ≡ true → 13 + length run.old.talk.left ≤ run.before.room → inits.NeverFaults status run.before run.behind run.old run.new
 
 -- `feed`: frames are answered over the registry of the disk.
 pub record RunsFeed (status : Status) (run : Run) : Type 0 where
@@ -70,6 +78,9 @@ pub record RunsFeed (status : Status) (run : Run) : Type 0 where
   pub unserved : ¬ feeds.IsRunning status → run.new ≡ run.old
   -- answers are sent turn by turn, each behind the moment at which its turn began
   pub in_turns : run.tells ≡ true → run.stamped ≡ true → SentInTurns run.started run.ended run.old run.new
+  -- where there is room for whatever may be answered and kept, no count of faults rises, and the run ends as its frames say, or
+  -- with Memory
+  pub sure : run.tells ≡ true → run.tells_room ≡ true → (m : Machine) → IsKnown (IsOwn m) run.before.told → feed_room.Suffices (at_rest m) run.room run.before.room run.old.talk.left → feed_room.EndsSurely status run.old run.new run.before run.behind
 
 -- `audit`: the journal is replayed, and what it leads to is sent.
 pub record RunsAudit (status : Status) (run : Run) : Type 0 where
@@ -80,6 +91,8 @@ pub record RunsAudit (status : Status) (run : Run) : Type 0 where
   pub own : run.tells ≡ true → (m : Machine) → IsKnown (IsOwn m) run.before.told → audits.SendsOwn status m run.old.talk run.new.talk
   -- and the end is Done or Memory
   pub complete : (m : Machine) → IsKnown (IsOwn m) run.before.told → IsCalm run → audits.EndsWell status
+  -- where there is room for that text, no count of faults rises
+  pub sure : (m : Machine) → IsKnown (IsOwn m) run.before.told → run.tells_room ≡ true → length (audit_text (audit_of m)) ≤ run.room → audits.NeverFaults status run.before run.behind run.old run.new
   pub disk : OnlyReads run.before run.behind
 
 -- `client`: frames are answered by a light client.
@@ -90,6 +103,8 @@ pub record RunsClient (status : Status) (run : Run) : Type 0 where
   -- Done, CutInput and Enough come only where the text's frames say so, and where no count rose one of them comes
   pub exact : run.tells ≡ true → (frames : List Frame) (left : List ℕ) → Cuts run.old.talk.left frames left → client_laws.EndsExactly status frames left
   pub complete : run.tells ≡ true → IsCalm run → (frames : List Frame) (left : List ℕ) → Cuts run.old.talk.left frames left → status ≡ client_laws.ending_of frames left
+  -- where there is room for whatever may be answered, no count of faults rises, and the run ends as its frames say
+  pub sure : run.tells ≡ true → run.tells_room ≡ true → client_room.Suffices run.room run.old.talk.left → client_room.EndsSurely status run.old run.new
   -- no call of the disk is made
   pub disk : run.behind ≡ run.before
 

@@ -23,6 +23,8 @@ pub fn dmn_main<T: Station>(alloc: Global, words: &[String], station: &mut T) ->
     ensures runs { (command : commands.Command) → command_of (map string_bytes words.now) ≡ Some command → Runs command result (record {
       tells = T.tells;
       stamped = T.tells_moments;
+      tells_room = T.tells_room;
+      room = T.room station.old;
       started = T.time station.old;
       ended = T.time station.new;
       before = T.disk station.old;

@@ -11,6 +11,7 @@ returns-in-Some-Init-clause-runs g c = λ command wanted. runs_asked _ commands.
   unwritten = c.init.ensures.before;
   moments = c.init.ensures.moments;
   complete = λ tells blank start of calm. c.init.ensures.complete tells blank start of calm.disk calm.line;
+  sure = c.init.ensures.sure;
 })
 
 pub returns-in-Some-Feed-clause-runs : goal.returns-in-Some-Feed-clause-runs
@@ -24,6 +25,7 @@ returns-in-Some-Feed-clause-runs g c = λ command wanted. runs_asked _ commands.
   departs = c.feed.ensures.departs;
   unserved = c.feed.ensures.unserved;
   in_turns = c.feed.ensures.in_turns;
+  sure = c.feed.ensures.sure;
 })
 
 pub returns-in-Some-Audit-clause-runs : goal.returns-in-Some-Audit-clause-runs
@@ -32,5 +34,16 @@ returns-in-Some-Audit-clause-runs g c = λ command wanted. runs_asked _ commands
   outcome = c.audit.ensures.outcome;
   own = c.audit.ensures.own;
   complete = λ m known calm. c.audit.ensures.complete m known calm.disk calm.line;
+  sure = c.audit.ensures.sure;
   disk = c.audit.ensures.disk;
+})
+
+pub returns-in-Some-Client-clause-runs : goal.returns-in-Some-Client-clause-runs
+returns-in-Some-Client-clause-runs g c = λ command wanted. runs_asked _ commands.Client command _ _ (sym (rw c.in-Some-Client.field-0-is at c.in-Some-Client.ensures)) wanted (record {
+  ends = c.client.ensures.ends;
+  outcome = c.client.ensures.outcome;
+  exact = c.client.ensures.exact;
+  complete = λ tells calm. c.client.ensures.complete tells calm.line;
+  sure = c.client.ensures.sure;
+  disk = c.client.ensures.disk;
 })

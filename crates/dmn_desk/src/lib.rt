@@ -23,10 +23,9 @@ mod rule_fields;
 mod text;
 mod walk;
 
-pub use dmn_frames::{FRONT, HEAD, LONGEST_BODY, Reading, Short};
-
 pub use answer::{Answer, GrownAnswer, ShortAnswer};
 pub use desk::Desk;
+pub use dmn_frames::{FRONT, HEAD, LONGEST_BODY, Reading, Short};
 pub use kind::Kind;
 pub use request::{Request, RequestFault, read_request};
 pub use text::{answer_text, short_text};

@@ -40,4 +40,3 @@ start_long start is =
     let items = items_long _ start.outputs is.1.1.1.1.1.1 in
     let outputs : List ℕ = series_text (following point_cmp point_of out_point behind_point) (last_key point_of) Rattle.std.specs.Prelude.None start.outputs in
     omega (arith, few, items, is.1.1.1.0.0, length-append start.hash.0 (to_le_bytes w32 (length start.outputs) ++ outputs))
-

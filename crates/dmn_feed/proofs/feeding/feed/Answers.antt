@@ -37,7 +37,7 @@ returns-in-Err-Memory-clause-in_turns g c = λ tells stamped. subst (λ (v : Lin
 pub returns-clause-outcome : goal.returns-clause-outcome
 returns-clause-outcome g c = λ tells m known.
     let run = opened (g.T.Device.time c.args.station.now) (g.T.Device.disk c.args.station.now) (g.T.Device.disk c.open.new.disk) m known c.open.ensures.moments in
-    let stands : StandsAt (record { desk = c.in-Ok.desk; registry = c.in-Ok-open.registry }) (at_rest m) (g.T.Device.disk c.open.new.disk).told = record { registry = c.in-Ok-open.ensures.recovers m known; desk = c.in-Ok.ensures (state_of (at_rest m)) } in
+    let stands : StandsAt (record { desk = c.in-Ok.desk; registry = c.in-Ok-open.registry }) (at_rest m) (g.T.Device.disk c.open.new.disk).told = record { registry = c.in-Ok-open.ensures.recovers m known; desk = c.in-Ok.ensures.true_to_each (state_of (at_rest m)) } in
     let later = subst (λ (v : LineView). Outcome c.run.result g.T.Device.tells_moments (g.T.Device.time c.open.new.disk) (at_rest m) (g.T.Device.disk c.open.new.disk) (g.T.Device.disk c.run.new.station) v (g.T.Device.line c.run.new.station)) c.open.ensures.line (c.run.ensures.outcome tells (at_rest m) stands) in
     outcome_earlier c.run.result g.T.Device.tells_moments _ _ (at_rest m) _ _ _ _ _ c.open.ensures.time run c.run.ensures.status later
 
@@ -68,7 +68,7 @@ returns-in-Err-Memory-clause-sure g c = λ tells told m known enough. record {
 pub returns-clause-sure : goal.returns-clause-sure
 returns-clause-sure g c = λ tells told m known enough.
     let kept = (c.in-Ok-open.ensures.sure told).disk in
-    let stands : StandsAt (record { desk = c.in-Ok.desk; registry = c.in-Ok-open.registry }) (at_rest m) (g.T.Device.disk c.open.new.disk).told = record { registry = c.in-Ok-open.ensures.recovers m known; desk = c.in-Ok.ensures (state_of (at_rest m)) } in
+    let stands : StandsAt (record { desk = c.in-Ok.desk; registry = c.in-Ok-open.registry }) (at_rest m) (g.T.Device.disk c.open.new.disk).told = record { registry = c.in-Ok-open.ensures.recovers m known; desk = c.in-Ok.ensures.true_to_each (state_of (at_rest m)) } in
     let still : Suffices (at_rest m) (g.T.Device.room c.open.new.disk) (g.T.Device.disk c.open.new.disk).room (g.T.Device.line c.open.new.disk).talk.left = rw (c.open.ensures.room, kept.room, c.open.ensures.line) enough in
     let never = c.run.ensures.sure tells told (at_rest m) stands still in
     record {

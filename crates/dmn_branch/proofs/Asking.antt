@@ -1,18 +1,15 @@
 -- What is asked of a height that is held, by the stored rows.
-use Rattle.std.proofs.Common.{◌≡◌, ℕ, zero, suc, ◌+◌, ◌-◌, ◌%◌, ◌≤◌, Bool, true, false, cond, List, [], ◌∷◌, ◌++◌, length, take, map, find, filter, Option, Some, None, refl, sym, ap, ◌∙◌, subst, inl, inr, arith}
+use Rattle.std.proofs.Common.{◌≡◌, ℕ, zero, suc, ◌+◌, ◌-◌, ◌%◌, ◌≤◌, Bool, true, false, cond, List, [], ◌∷◌, ◌++◌, length, take, map, find, filter, Option, Some, None, refl, sym, ap, ◌∙◌, subst, arith}
 use Rattle.std.specs.Prelude.{◌==◌, ◌&&◌, nat_le, slice_get, Result, Ok, Err, IfOk}
 use Rattle.std.specs.List.{AllByRecursion, flat_map}
-use Rattle.std.specs.Option.{option_map, unwrap_or}
-use Rattle.std.proofs.Math.Bool.{and-false}
-use Rattle.std.proofs.lemmas.Bool.{cases_Bool}
+use Rattle.std.specs.Option.{unwrap_or}
 use Rattle.std.proofs.lemmas.List.Concat.{flat_map-cons}
 use Rattle.std.proofs.lemmas.List.{length-map, length-take, map-append, take_all}
-use Rattle.std.proofs.lemmas.Option.{slice_get-map}
 use Rattle.dmn_block.specs.State.{State}
 use Rattle.dmn_bytes.specs.declared.hash.Hash256.{Hash256}
 use Rattle.dmn_payloads.specs.declared.commitment.Commitment.{Commitment}
 use Rattle.dmn_payloads.specs.declared.mined.MinedAt.{MinedAt}
-use Rattle.dmn_quorums.specs.Duty.{active_of, all_active, is_of, last, params_of, types_of, undone}
+use Rattle.dmn_quorums.specs.Duty.{active_at, active_of, all_active, params_of, types_of}
 use Rattle.dmn_quorums.specs.Score.{members_of, modifier_of}
 use Rattle.dmn_quorums.proofs.Stored.{members_plain}
 use Rattle.dmn_rows.specs.declared.profile.Profile.{Profile}
@@ -26,13 +23,13 @@ use Rattle.dmn_rows.proofs.Lookups.{find-plain}
 use Rattle.dmn_rows.proofs.Ranked.{front, least_is_front, least_map}
 use Rattle.dmn_standing.specs.Payment.{forecast}
 use Rattle.dmn_standing.proofs.Turns.{forecast_plain, forecast_sorted}
-use Rattle.dmn_branch.specs.declared.held.Held.{Held}
 use Rattle.dmn_branch.specs.Asked.{IsToldOf, members_by, members_in, payee_of, payees_of, quorums_in, row_of, seen_at}
-use Rattle.dmn_branch.specs.Machine.{MachineState, profile}
+use Rattle.dmn_branch.specs.Machine.{MachineState, held_states, profile, state_at, tip}
 use Rattle.dmn_branch.specs.Parts.{StandsIn}
-use Rattle.dmn_branch.specs.Stands.{AreFrom, HoldsBase, IsHeld, Kept, Keeping, StandsAt, kept_in, low_kept}
+use Rattle.dmn_branch.specs.Stands.{GivesActive, HoldsBase, IsHeld, Kept, Keeping, StandsAt, StandsFor, low_kept}
+use Rattle.dmn_branch.proofs.Every.{every_at, every_then}
 use Rattle.dmn_branch.proofs.Ranks.{one_more}
-use Rattle.dmn_branch.proofs.Standing.{from_at}
+use Rattle.dmn_branch.proofs.Standing.{state_held}
 
 -- ---- the payee among stored rows
 
@@ -52,14 +49,6 @@ payee_seen : (h : ℕ) (rows : List MnRow) → seen_at h (slice_get (pay_order r
 payee_seen h rows =
     ap (seen_at h) (sym (least_is_front turn_cmp (filter is_unbanned rows) ∙ front_is (pay_order rows)))
     ∙ sym (ap (least turn_cmp) (filter_plain h rows) ∙ least_map turn_cmp (plain h) (filter is_unbanned rows))
-
--- ---- what is held of a height
-
-pub held_list : (b : Keeping) (n : ℕ) (held : Held) → b.lists ≡ map (kept_in b.indexes b.mined) b.held → slice_get b.held n ≡ Some held → slice_get b.lists n ≡ Some (kept_in b.indexes b.mined held)
-held_list b n held read is = ap (λ (l : List Kept). slice_get l n) read ∙ slice_get-map (kept_in b.indexes b.mined) b.held n ∙ ap (option_map (kept_in b.indexes b.mined)) is
-
-pub held_height : (b : Keeping) (height : ℕ) (k : Kept) → IsHeld b height → AreFrom (low_kept b) b.lists → slice_get b.lists (height - low_kept b) ≡ Some k → k.height ≡ height
-held_height b height k held are is = omega (arith, held.low, from_at (low_kept b) b.lists (height - low_kept b) k are is)
 
 -- ---- what is told of a state
 
@@ -85,35 +74,24 @@ tells_payees height n k None hashes at is stands = absurd stands
 tells_payees height n k (Some s) hashes at is stands =
     is ∙ sym (forecast_plain height n k.rows stands.whole.rows ∙ forecast_sorted n k.rows stands.whole.rows) ∙ ap (forecast n) (rows_seen height k s at stands)
 
--- of the commitments up to a height the active ones are those of all
-filter_undone : (params : QuorumParams) (height : ℕ) (mined : List MinedAt) → filter (is_of params height) (undone height mined) ≡ filter (is_of params height) mined
-filter_undone params height [] = refl
-filter_undone params height (m ∷ mined) =
-    let rest = filter_undone params height mined in
-    let left = λ (b : Bool). filter (is_of params height) (cond b (m ∷ undone height mined) (undone height mined)) in
-    elim (cases_Bool (nat_le m.height height)) [
-      | inl below ↦ ap left below ∙ ap (λ (l : List MinedAt). cond (is_of params height m) (m ∷ l) l) rest
-      | inr above ↦
-          let other : is_of params height m ≡ false = ap (λ b. (m.commitment.kind == params.kind) && b) above ∙ and-false (m.commitment.kind == params.kind) in
-          ap left above ∙ rest ∙ ap (λ (b : Bool). cond b (m ∷ filter (is_of params height) mined) (filter (is_of params height) mined)) (sym other)
-    ]
+-- the active quorums of each type are those of the state
+active_all : (mined : List MinedAt) (s : State) (types : List QuorumParams) → AllByRecursion (λ p. active_at mined p s.height ≡ active_at s.mined p s.height) types → flat_map (λ (p : QuorumParams). active_of mined p s.height) types ≡ flat_map (λ (p : QuorumParams). active_of s.mined p s.height) types
+active_all mined s [] all = refl
+active_all mined s (p ∷ types) all =
+    flat_map-cons (λ (q : QuorumParams). active_of mined q s.height) p types
+    ∙ ap (λ (l : List MinedAt). map (λ (m : MinedAt). m.commitment) l ++ flat_map (λ (q : QuorumParams). active_of mined q s.height) types) all.0
+    ∙ ap (λ (l : List Commitment). active_of s.mined p s.height ++ l) (active_all mined s types all.1)
+    ∙ sym (flat_map-cons (λ (q : QuorumParams). active_of s.mined q s.height) p types)
 
-active_undone : (mined : List MinedAt) (types : List QuorumParams) (height : ℕ) → flat_map (λ (p : QuorumParams). active_of (undone height mined) p height) types ≡ flat_map (λ (p : QuorumParams). active_of mined p height) types
-active_undone mined [] height = refl
-active_undone mined (p ∷ types) height =
-    flat_map-cons (λ (q : QuorumParams). active_of (undone height mined) q height) p types
-    ∙ ap (λ (l : List MinedAt). map (λ (m : MinedAt). m.commitment) (last p.active l) ++ flat_map (λ (q : QuorumParams). active_of (undone height mined) q height) types) (filter_undone p height mined)
-    ∙ ap (λ (l : List Commitment). active_of mined p height ++ l) (active_undone mined types height)
-    ∙ sym (flat_map-cons (λ (q : QuorumParams). active_of mined q height) p types)
-
-pub tells_quorums : (m : MachineState) (height : ℕ) (mined : List MinedAt) (k : Kept) (found : Option State) (quorums : List Commitment) → k.height ≡ height → k.mined ≡ undone k.height mined → quorums ≡ all_active mined (profile m).quorums height → StandsIn k found → IsToldOf (quorums_in m) quorums found
-tells_quorums m height mined k None quorums at kept is stands = absurd stands
-tells_quorums m height mined k (Some s) quorums at kept is stands =
-    is
-    ∙ sym (active_undone mined (types_of (profile m).quorums) height)
-    ∙ ap (λ (n : ℕ). all_active (undone n mined) (profile m).quorums n) (sym at)
-    ∙ ap (λ (l : List MinedAt). all_active l (profile m).quorums k.height) (sym kept ∙ stands.mined)
-    ∙ ap (λ (n : ℕ). all_active s.mined (profile m).quorums n) stands.height
+pub tells_quorums : (b : Keeping) (m : MachineState) (height : ℕ) (k : Kept) (quorums : List Commitment) → StandsFor b m → IsHeld b height → k.height ≡ height → StandsIn k (state_at m height) → quorums ≡ all_active b.mined (profile m).quorums height → IsToldOf (quorums_in m) quorums (state_at m height)
+tells_quorums b m height k quorums stands held at in_state is = go (state_at m height) (state_held b m height stands held.low) in_state
+  where
+    go : (found : Option State) → found ≡ slice_get (held_states m) (height - low_kept b) → StandsIn k found → IsToldOf (quorums_in m) quorums found
+    go None there stands_at = absurd stands_at
+    go (Some s) there stands_at =
+        let here : height ≡ s.height = sym at ∙ stands_at.height in
+        let active = every_then (λ (p : QuorumParams) (gives : GivesActive b.mined (tip m).height (held_states m) p). every_at (λ (t : State). active_at b.mined p t.height ≡ active_at t.mined p t.height) (held_states m) (height - low_kept b) s gives.active (sym there)) (types_of (profile m).quorums) stands.quorums in
+        is ∙ ap (all_active b.mined (profile m).quorums) here ∙ active_all b.mined s (types_of (profile m).quorums) active
 
 -- ---- the members of a quorum
 

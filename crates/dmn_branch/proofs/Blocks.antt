@@ -1,12 +1,12 @@
 -- Each block of a branch has a coinbase.
-use Rattle.std.proofs.Common.{◌≡◌, ℕ, zero, suc, ◌-◌, ◌≤◌, false, List, [], ◌∷◌, ◌++◌, Option, Some, None, Result, Ok, Err, refl, sym, ap, ◌∙◌, subst, arith}
+use Rattle.std.proofs.Common.{◌≡◌, ℕ, zero, suc, ◌+◌, ◌-◌, ◌≤◌, false, List, [], ◌∷◌, ◌++◌, Option, Some, None, Result, Ok, Err, refl, sym, ap, ◌∙◌, subst, arith}
 use Rattle.std.specs.Prelude.{◌==◌, is_none, slice_get}
 use Rattle.std.specs.List.{AllByRecursion}
 use Rattle.std.specs.Option.{option_or}
 use Rattle.std.proofs.lemmas.Bool.{eq-eqb, ne_eqb}
 use Rattle.dmn_block.specs.declared.frame.BlockFrame.{BlockFrame}
 use Rattle.dmn_block.specs.declared.refusal.Refusal.{Refusal}
-use Rattle.dmn_block.specs.Shape.{Numbered, broken_rule, first_broken, link_rules, tx_rules, begins_with_coinbase, unnumbered}
+use Rattle.dmn_block.specs.Shape.{Numbered, broken_rule, first_broken, first_of, link_rules, tx_rules, begins_with_coinbase, unnumbered}
 use Rattle.dmn_block.specs.State.{State, origin}
 use Rattle.dmn_bytes.specs.declared.hash.Hash256.{Hash256}
 use Rattle.dmn_quorums.specs.Forming.{Formed}
@@ -18,8 +18,7 @@ use Rattle.dmn_tx.specs.declared.tx.Tx.{Tx}
 use Rattle.dmn_branch.specs.Coinbases.{HasCoinbase, coinbase_of, part_in, part_of}
 use Rattle.dmn_branch.specs.Machine.{MachineState, branch, history, state_at}
 use Rattle.dmn_branch.specs.Replay.{replay_on, with_next}
-use Rattle.dmn_branch.specs.Step.{Outcome, and_then, closed, outcome, profile_of, formed_on, shaped, step, step_from, tip_of, unless}
-use Rattle.dmn_branch.proofs.Connecting.{block_kept}
+use Rattle.dmn_branch.specs.Step.{Outcome, and_then, closed, coinbase_in, last_rules, outcome, profile_of, formed_on, shaped, state_of, step, step_from, tip_of, unless}
 use Rattle.dmn_branch.proofs.Stepping.{behind}
 
 none_front : (a b : Option Refusal) → option_or a b ≡ None → a ≡ None
@@ -30,7 +29,7 @@ before : (xs ys : Numbered) → first_broken (unnumbered (xs ++ ys)) ≡ None �
 before xs ys e = none_front (first_broken (unnumbered xs)) (first_broken (unnumbered ys)) (sym (first_broken_append xs ys) ∙ e)
 
 -- a block that no rule on its shape refuses has a first transaction
-has_first : (block : BlockFrame) (tip : Hash256) (height : ℕ) → broken_rule block tip height ≡ None → is_none (part_of block.txs) ≡ false
+pub has_first : (block : BlockFrame) (tip : Hash256) (height : ℕ) → broken_rule block tip height ≡ None → is_none (part_of block.txs) ≡ false
 unfolding tx_rules begins_with_coinbase
 has_first block tip height none = go block.txs refl (before (tx_rules block) _ (behind (link_rules block tip height) _ none))
   where
@@ -38,13 +37,33 @@ has_first block tip height none = go block.txs refl (before (tx_rules block) _ (
     go [] is e = absurd cc
     go (tx ∷ txs) is e = refl
 
-shape_none : (profile : Profile) (formed : List Formed) (state : State) (block : BlockFrame) (after : State) → step_from profile formed state block ≡ Ok after → broken_rule block state.hash state.height ≡ None
+pub shape_none : (profile : Profile) (formed : List Formed) (state : State) (block : BlockFrame) (after : State) → step_from profile formed state block ≡ Ok after → broken_rule block state.hash state.height ≡ None
 unfolding step_from outcome shaped
 shape_none profile formed state block after is = go _ (closed state block) (broken_rule block state.hash state.height) is
   where
     go : (f : List MnRow → Result Outcome Refusal) (g : Outcome → Result State Refusal) (o : Option Refusal) → and_then (and_then (unless o state.rows) f) g ≡ Ok after → o ≡ None
     go f g None e = refl
     go f g (Some refusal) e = absurd cc
+
+-- what is there behind a block that is accepted
+pub step_is : (profile : Profile) (formed : List Formed) (tip : State) (block : BlockFrame) (next : State) → step_from profile formed tip block ≡ Ok next → (x : Outcome) × (first_of (last_rules (coinbase_in block.txs) x) ≡ None) × (state_of tip block x ≡ next)
+unfolding step_from closed
+step_is profile formed tip block next is = go (outcome profile formed tip block) is
+  where
+    end : (x : Outcome) (broken : Option Refusal) → first_of (last_rules (coinbase_in block.txs) x) ≡ broken → unless broken (state_of tip block x) ≡ Ok next → (x : Outcome) × (first_of (last_rules (coinbase_in block.txs) x) ≡ None) × (state_of tip block x ≡ next)
+    end x None none e = let same : state_of tip block x ≡ next = cc in (x, none, same)
+    end x (Some refusal) none e = absurd cc
+
+    go : (o : Result Outcome Refusal) → and_then o (closed tip block) ≡ Ok next → (x : Outcome) × (first_of (last_rules (coinbase_in block.txs) x) ≡ None) × (state_of tip block x ≡ next)
+    go (Ok x) e = end x (first_of (last_rules (coinbase_in block.txs) x)) refl e
+    go (Err refusal) e = absurd cc
+
+-- a state tells its block, and is one height above the tip
+pub block_kept : (profile : Profile) (formed : List Formed) (state : State) (block : BlockFrame) (after : State) → step_from profile formed state block ≡ Ok after → after.block ≡ Some block
+block_kept profile formed state block after is = ap (λ (s : State). s.block) (sym (step_is profile formed state block after is).2)
+
+pub height_kept : (profile : Profile) (formed : List Formed) (state : State) (block : BlockFrame) (after : State) → step_from profile formed state block ≡ Ok after → after.height ≡ state.height + 1
+height_kept profile formed state block after is = ap (λ (s : State). s.height) (sym (step_is profile formed state block after is).2)
 
 -- the state after a block that is accepted
 part_next : (profile : Profile) (formed : List Formed) (state : State) (block : BlockFrame) (after : State) → step_from profile formed state block ≡ Ok after → is_none (coinbase_of after) ≡ false

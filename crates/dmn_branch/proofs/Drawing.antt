@@ -1,5 +1,5 @@
 -- The quorums of a block's height, by what a branch keeps.
-use Rattle.std.proofs.Common.{◌≡◌, ℕ, zero, suc, ◌+◌, ◌-◌, ◌%◌, ◌<◌, ◌≤◌, max, Bool, true, false, cond, List, [], ◌∷◌, length, map, get_or, drop, Option, Some, None, refl, sym, ap, ◌∙◌, arith, add-one, drop-cons}
+use Rattle.std.proofs.Common.{◌≡◌, ℕ, zero, suc, ◌+◌, ◌-◌, ◌%◌, ◌<◌, ◌≤◌, max, Bool, true, false, cond, List, [], ◌∷◌, length, map, get_or, drop, Option, Some, None, refl, sym, ap, ◌∙◌, subst, arith, add-one, drop-cons}
 use Rattle.std.specs.Prelude.{◌&&◌, nat_le, slice_get}
 use Rattle.std.specs.List.{AllByRecursion}
 use Rattle.std.proofs.lemmas.Bool.{leb-true}
@@ -7,7 +7,7 @@ use Rattle.dmn_block.specs.State.{State}
 use Rattle.dmn_bytes.specs.declared.hash.Hash256.{Hash256}
 use Rattle.dmn_payloads.specs.declared.mined.MinedAt.{MinedAt}
 use Rattle.dmn_quorums.specs.Digest.{digest_of}
-use Rattle.dmn_quorums.specs.Duty.{base_of, is_done, is_in_window, types_of}
+use Rattle.dmn_quorums.specs.Duty.{base_of, is_done, is_in_window, is_of, types_of, undone}
 use Rattle.dmn_quorums.specs.Forming.{Formed, inside, outside, seats}
 use Rattle.dmn_quorums.specs.Score.{modifier_of}
 use Rattle.dmn_quorums.proofs.Stored.{members_plain, digest_plain}
@@ -19,8 +19,12 @@ use Rattle.dmn_branch.specs.Machine as machine
 use Rattle.dmn_branch.specs.Machine.{MachineState, history, tip, state_at}
 use Rattle.dmn_branch.specs.Parts.{StandsIn, formed_in, formed_kept, all_formed_in}
 use Rattle.dmn_branch.specs.Quorums.{formed_at, formed_by}
-use Rattle.dmn_branch.specs.Stands.{HoldsBase, IsHeld, IsKept, Kept, Keeping, StandsFor, low_kept}
-use Rattle.dmn_branch.proofs.Standing.{held_stands}
+use Rattle.dmn_branch.specs.Stands.{GivesActive, HoldsBase, IsHeld, IsKept, Kept, Keeping, KeepsActive, StandsFor, low_kept}
+use Rattle.dmn_branch.proofs.Active.{from_filter, same_done, settled_to}
+use Rattle.dmn_branch.proofs.Every.{every_both}
+use Rattle.dmn_branch.proofs.History.{tip_mined_from, tip_mined_to}
+use Rattle.dmn_branch.proofs.Standing.{held_stands, tip_gives}
+use Rattle.dmn_branch.proofs.Starting.{some_active}
 
 -- ---- the types of a profile, one after another
 
@@ -77,10 +81,14 @@ kept_tells params mined height k (Some s) at =
     ∙ sym (inside_plain s.height params done s.hash k.rows)
     ∙ ap (inside params done s.hash) at.rows
 
-module _ (branch : Keeping) (m : MachineState) (height : ℕ) (stands : StandsFor branch m) (kept : IsKept branch.profile branch.first branch.top branch.lists) (next : height ≡ low_kept branch + length branch.lists) (mined : branch.mined ≡ (tip m).mined) where
-  formed_is : (params : QuorumParams) → HoldsBase branch.profile params → formed_in branch height params ≡ formed_at m.start.first (history m) (tip m).mined height params
-  formed_is params base =
-      ap (λ (l : List MinedAt). cond (is_in_window params branch.first height) (formed_kept params (is_done params height l) (slice_get branch.lists (base_of params height - low_kept branch))) (outside params (is_done params height l))) mined
+module _ (branch : Keeping) (m : MachineState) (height : ℕ) (stands : StandsFor branch m) (kept : IsKept branch.profile branch.first branch.top branch.lists) (next : height ≡ low_kept branch + length branch.lists) where
+  -- it is known of the base whether its commitment was mined
+  abbrev IsDoneAlike : QuorumParams → Type 0
+  IsDoneAlike params = is_done params height branch.mined ≡ is_done params height (tip m).mined
+
+  formed_is : (params : QuorumParams) → HoldsBase branch.profile params → IsDoneAlike params → formed_in branch height params ≡ formed_at m.start.first (history m) (tip m).mined height params
+  formed_is params base done =
+      ap (λ (b : Bool). cond (is_in_window params branch.first height) (formed_kept params b (slice_get branch.lists (base_of params height - low_kept branch))) (outside params b)) done
       ∙ go (is_in_window params branch.first height) refl
       ∙ ap (λ (n : ℕ). cond (is_in_window params n height) (formed_by params (tip m).mined height (state_at m (base_of params height))) (outside params (is_done params height (tip m).mined))) stands.first
     where
@@ -92,15 +100,27 @@ module _ (branch : Keeping) (m : MachineState) (height : ℕ) (stands : StandsFo
           ∙ kept_tells params (tip m).mined height one.0 _ (held_stands branch m (base_of params height) one.0 stands held.low one.1)
       go false is = refl
 
-  all_are : (types : List QuorumParams) → AllByRecursion (HoldsBase branch.profile) types → map (formed_in branch height) types ≡ map (formed_at m.start.first (history m) (tip m).mined height) types
-  all_are [] bases = refl
-  all_are (params ∷ types) bases =
-      ap (λ (f : Formed). f ∷ map (formed_in branch height) types) (formed_is params bases.0)
-      ∙ ap (λ (l : List Formed). formed_at m.start.first (history m) (tip m).mined height params ∷ l) (all_are types bases.1)
+  all_are : (types : List QuorumParams) → AllByRecursion (HoldsBase branch.profile) types → AllByRecursion IsDoneAlike types → map (formed_in branch height) types ≡ map (formed_at m.start.first (history m) (tip m).mined height) types
+  all_are [] bases done = refl
+  all_are (params ∷ types) bases done =
+      ap (λ (f : Formed). f ∷ map (formed_in branch height) types) (formed_is params bases.0 done.0)
+      ∙ ap (λ (l : List Formed). formed_at m.start.first (history m) (tip m).mined height params ∷ l) (all_are types bases.1 done.1)
+
+  -- of a settled branch, by the active quorums of the tip
+  done_alike : undone (tip m).height branch.mined ≡ branch.mined → height ≡ (tip m).height + 1 → AllByRecursion IsDoneAlike (types_of branch.profile.quorums)
+  done_alike settled is =
+      let h = (tip m).height in
+      let to = settled_to h branch.mined settled in
+      let some = subst (λ (p : Profile). AllByRecursion (λ (q : QuorumParams). 0 < q.active) (types_of p.quorums)) (sym stands.profile) (some_active m.start) in
+      let gives = subst (λ (p : Profile). KeepsActive p branch.mined h (tip m ∷ [])) (sym stands.profile) (tip_gives branch m kept stands) in
+      let bounds = every_both (λ (p : QuorumParams) (many : 0 < p.active) (base : HoldsBase branch.profile p). (many, base.interval)) (types_of branch.profile.quorums) some kept.bases in
+      every_both (λ (p : QuorumParams) (many : (0 < p.active) × (0 < p.interval)) (gives : GivesActive branch.mined h (tip m ∷ []) p).
+      subst (λ (n : ℕ). is_done p n branch.mined ≡ is_done p n (tip m).mined) (sym is)
+      (same_done p h branch.mined (tip m).mined many.0 many.1 gives.ordered to (from_filter (is_of p h) 0 (tip m).mined (tip_mined_from m)) (tip_mined_to m) gives.active.0)) (types_of branch.profile.quorums) bounds gives
 
   -- the quorums are the machine's
-  pub all_formed_are : height ≡ (tip m).height + 1 → all_formed_in branch height branch.profile.quorums ≡ machine.formed m
-  all_formed_are is =
-      all_are (types_of branch.profile.quorums) kept.bases
+  pub all_formed_are : undone (tip m).height branch.mined ≡ branch.mined → height ≡ (tip m).height + 1 → all_formed_in branch height branch.profile.quorums ≡ machine.formed m
+  all_formed_are settled is =
+      all_are (types_of branch.profile.quorums) kept.bases (done_alike settled is)
       ∙ ap (λ (p : Profile). map (formed_at m.start.first (history m) (tip m).mined height) (types_of p.quorums)) stands.profile
       ∙ ap (λ (n : ℕ). map (formed_at m.start.first (history m) (tip m).mined n) (types_of (machine.profile m).quorums)) is

@@ -8,6 +8,11 @@ pub mod Starting
 pub mod Judging
 pub mod Stepping
 pub mod Connecting
+mod Every
+mod Active
+mod History
+mod Leaving
+mod Adding
 mod Ranks
 mod Asking
 mod Putting
@@ -21,3 +26,9 @@ mod Punishing
 mod Drawing
 mod Blocks
 mod Moving
+mod Taking
+mod Restoring
+mod Gathering
+mod Returning
+mod Telling
+mod Handing

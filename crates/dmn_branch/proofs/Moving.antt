@@ -1,5 +1,5 @@
 -- Versions and pins, where their arenas are compacted.
-use Rattle.std.proofs.Common.{◌≡◌, ℕ, zero, suc, ◌+◌, ◌-◌, ◌<◌, ◌≤◌, List, [], ◌∷◌, ◌++◌, length, length-append, map, get_or, Option, None, Some, refl, sym, ap, ◌∙◌, subst, arith}
+use Rattle.std.proofs.Common.{◌≡◌, ℕ, zero, suc, ◌+◌, ◌-◌, ◌<◌, ◌≤◌, List, [], ◌∷◌, length, length-append, map, get_or, Option, None, Some, refl, sym, ap, ◌∙◌, subst, arith}
 use Rattle.std.specs.List.{All, slice_index}
 use Rattle.std.specs.declared.cmp.Ordering.{Ordering}
 use Rattle.std.proofs.lemmas.List.{get_or-map, get_or_append_left, get_or-append_right, length-map}
@@ -13,14 +13,12 @@ use Rattle.dmn_indexes.specs.Marks.{IsBelow, SameNodes}
 use Rattle.dmn_indexes.specs.Version.{GrownBy, Holds, IsIndex, by_hash, outputs_in, outputs_of, rows_in, values}
 use Rattle.dmn_indexes.specs.Version as versions
 use Rattle.dmn_indexes.proofs.Whole.{whole_of}
-use Rattle.dmn_payloads.specs.declared.mined.MinedAt.{MinedAt}
-use Rattle.dmn_quorums.specs.Duty.{undone}
 use Rattle.dmn_rows.specs.declared.row.MnRow.{MnRow}
 use Rattle.dmn_rows.specs.Rows.{Outputs, plain_rows}
 use Rattle.dmn_versions.specs.declared.arena.Arena.{Arena}
 use Rattle.dmn_versions.specs.declared.node.Node.{Node}
 use Rattle.dmn_versions.specs.declared.node.Root.{Root}
-use Rattle.dmn_versions.specs.Trees.{IsSound, pairs, tree_at}
+use Rattle.dmn_versions.specs.Trees.{IsSound}
 use Rattle.dmn_versions.proofs.Versions.{sound_empty}
 use Rattle.dmn_walk.specs.Copy.{Copied, Moves}
 use Rattle.dmn_branch.specs.declared.compaction.Compaction.{Compaction}
@@ -30,8 +28,7 @@ use Rattle.dmn_branch.specs.declared.compaction.Tree.TheVariants as trees
 use Rattle.dmn_branch.specs.declared.held.Held.{Held}
 use Rattle.dmn_branch.specs.declared.pins.Pin.{Pin}
 use Rattle.dmn_branch.specs.Compact.{AreMade, Compacts, HasSoundTrees, MoreByAtMost, Renews, Stay, arena_after, height_after, indexes_after, mark_after, marks_after, pin_after, pin_version, root_at, root_of, version_at, versions_of}
-use Rattle.dmn_branch.specs.Stands.{AreSound, IsPinned, IsWhole, Kept, kept_in, pinned_in}
-use Rattle.dmn_branch.specs.Pins.{Pinned}
+use Rattle.dmn_branch.specs.Stands.{AreSound, IsPinned, IsWhole, Kept, kept_in, lists_in, pinned_in}
 
 -- ---- one arena
 
@@ -243,12 +240,23 @@ map_alike {X} {Y} f g (x ∷ xs) (y ∷ ys) long each =
     ap (λ (z : Y). z ∷ map g ys) (each zero x (omega arith))
     ∙ ap (λ (l : List Y). f x ∷ l) (map_alike f g xs ys (omega (arith, long)) (λ k d lt. each (suc k) d (omega (arith, lt))))
 
+lists_alike : (ix iy : Indexes) (low : ℕ) (xs ys : List Held) → length ys ≡ length xs → ((k : ℕ) (d : Held) → k < length xs → kept_in iy (low + k) (get_or ys k d) ≡ kept_in ix (low + k) (get_or xs k d)) → lists_in iy low ys ≡ lists_in ix low xs
+lists_alike ix iy low [] [] long each = refl
+lists_alike ix iy low [] (y ∷ ys) long each = absurd (omega (arith, long))
+lists_alike ix iy low (x ∷ xs) [] long each = absurd (omega (arith, long))
+lists_alike ix iy low (x ∷ xs) (y ∷ ys) long each =
+    let here : low + zero ≡ low = omega arith in
+    ap (λ (k : Kept). k ∷ lists_in iy (suc low) ys) (subst (λ (n : ℕ). kept_in iy n y ≡ kept_in ix n x) here (each zero x (omega arith)))
+    ∙ ap (λ (l : List Kept). kept_in ix low x ∷ l) (lists_alike ix iy (suc low) xs ys (omega (arith, long)) (λ k d lt.
+    let next : low + suc k ≡ suc low + k = omega arith in
+    subst (λ (n : ℕ). kept_in iy n (get_or ys k d) ≡ kept_in ix n (get_or xs k d)) next (each (suc k) d (omega (arith, lt)))))
+
 -- ---- what is held, and pins
 
 pub version_count : (held : List Held) (pinned : List Pin) → length (versions_of held pinned) ≡ length held + length pinned
 version_count held pinned = length-append (map (λ (h : Held). h.version) held) (map pin_version pinned) ∙ omega (arith, length-map held (λ (h : Held). h.version), length-map pinned pin_version)
 
-module _ (ix : Indexes) (mined : List MinedAt) (made : Compaction) (held new_held : List Held) (pinned new_pinned : List Pin) (compacts : Compacts ix (versions_of held pinned) made) (are_held : AreMade (height_after made) held new_held) (are_pinned : AreMade (λ k. pin_after made (length held + k)) pinned new_pinned) (sound : AreSound ix mined held) (is_pinned : All (IsPinned ix) pinned) where
+module _ (ix : Indexes) (low : ℕ) (made : Compaction) (held new_held : List Held) (pinned new_pinned : List Pin) (compacts : Compacts ix (versions_of held pinned) made) (are_held : AreMade (height_after made) held new_held) (are_pinned : AreMade (λ k. pin_after made (length held + k)) pinned new_pinned) (sound : AreSound ix low held) (is_pinned : All (IsPinned ix) pinned) where
   abbrev pub iy : Indexes
   iy = indexes_after ix made
 
@@ -273,24 +281,27 @@ module _ (ix : Indexes) (mined : List MinedAt) (made : Compaction) (held new_hel
   held_moved : (k : ℕ) (d : Held) → k < length held → Moved ix iy (get_or held k d).version (version_at made k)
   held_moved k d lt = moved ix vs made k (get_or held k d).version compacts (omega (arith, lt, count)) (held_there k d lt)
 
-  kept_after : (k : ℕ) (d : Held) → k < length held → kept_in iy mined (height_after made k (get_or held k d)) ≡ kept_in ix mined (get_or held k d)
+  kept_after : (k : ℕ) (d : Held) → k < length held → kept_in iy (low + k) (height_after made k (get_or held k d)) ≡ kept_in ix (low + k) (get_or held k d)
   kept_after k d lt =
       let h = get_or held k d in
       let m = held_moved k d lt in
-      ap (λ (rows : List MnRow). record { height = h.height; hash = h.hash; root = h.root; rows = rows; outputs = outputs_in iy (version_at made k); mined = undone h.height mined }) (ap values m.rows.reads)
-      ∙ ap (λ (outputs : Outputs). record { height = h.height; hash = h.hash; root = h.root; rows = rows_in ix h.version; outputs = outputs; mined = undone h.height mined }) (ap outputs_of m.outputs.reads)
+      ap (λ (rows : List MnRow). record { height = low + k; hash = h.hash; root = h.root; rows = rows; outputs = outputs_in iy (version_at made k) }) (ap values m.rows.reads)
+      ∙ ap (λ (outputs : Outputs). record { height = low + k; hash = h.hash; root = h.root; rows = rows_in ix h.version; outputs = outputs }) (ap outputs_of m.outputs.reads)
 
-  pub lists_after : map (kept_in iy mined) new_held ≡ map (kept_in ix mined) held
-  lists_after = map_alike (kept_in ix mined) (kept_in iy mined) held new_held are_held.long (λ k d lt. ap (kept_in iy mined) (are_held.each k d lt) ∙ kept_after k d lt)
+  pub lists_after : lists_in iy low new_held ≡ lists_in ix low held
+  lists_after = lists_alike ix iy low held new_held are_held.long (λ k d lt. ap (kept_in iy (low + k)) (are_held.each k d lt) ∙ kept_after k d lt)
 
-  pub sound_after : AreSound iy mined new_held
+  pub coinbases_after : map (λ (h : Held). h.coinbase) new_held ≡ map (λ (h : Held). h.coinbase) held
+  coinbases_after = map_alike (λ (h : Held). h.coinbase) (λ (h : Held). h.coinbase) held new_held are_held.long (λ k d lt. ap (λ (h : Held). h.coinbase) (are_held.each k d lt))
+
+  pub sound_after : AreSound iy low new_held
   sound_after = record {
     versions = λ k d lt. subst (λ (h : Held). versions.IsWhole iy h.version) (sym (are_held.each k d (inside k lt))) (whole_moved (held_moved k d (inside k lt)) (sound.versions k d (inside k lt)));
     below = λ i j d le lt.
         let here = inside j lt in
         rw (are_held.each i d (omega (arith, le, here)), are_held.each j d here)
         (moved_below ix vs made i (get_or held i d).version (get_or held j d).marks compacts (omega (arith, le, here, count)) (held_there i d (omega (arith, le, here))) (sound.below i j d le here));
-    wholes = λ k d lt. subst IsWhole (sym (ap (kept_in iy mined) (are_held.each k d (inside k lt)) ∙ kept_after k d (inside k lt))) (sound.wholes k d (inside k lt));
+    wholes = subst (All IsWhole) (sym lists_after) sound.wholes;
   }
     where
       inside : (k : ℕ) → k < length new_held → k < length held
@@ -320,20 +331,22 @@ module _ (ix : Indexes) (mined : List MinedAt) (made : Compaction) (held new_hel
       ∙ ap (λ (ps : List (Hash256 × MnRow)). record { number = p.number; height = p.height; rows = plain_rows p.height (values ps) }) (pin_moved k d lt).rows.reads)
 
 -- what is held, and pins, in compacted arenas
-pub record IsCompacted (ix iy : Indexes) (mined : List MinedAt) (held new_held : List Held) (pinned new_pinned : List Pin) : Type 0 where
-  pub sound : AreSound iy mined new_held
-  pub lists : map (kept_in iy mined) new_held ≡ map (kept_in ix mined) held
+pub record IsCompacted (ix iy : Indexes) (low : ℕ) (held new_held : List Held) (pinned new_pinned : List Pin) : Type 0 where
+  pub sound : AreSound iy low new_held
+  pub lists : lists_in iy low new_held ≡ lists_in ix low held
+  pub coinbases : map (λ (h : Held). h.coinbase) new_held ≡ map (λ (h : Held). h.coinbase) held
   pub are_pinned : All (IsPinned iy) new_pinned
   pub pins : map (pinned_in iy) new_pinned ≡ map (pinned_in ix) pinned
 
-pub compacted : (ix iy : Indexes) (mined : List MinedAt) (made : Compaction) (held new_held : List Held) (pinned new_pinned : List Pin) (vs : List Version) (count : ℕ) → vs ≡ versions_of held pinned → iy ≡ indexes_after ix made → count ≡ length held
-    → Compacts ix vs made → AreMade (height_after made) held new_held → AreMade (λ k. pin_after made (count + k)) pinned new_pinned → AreSound ix mined held → All (IsPinned ix) pinned → IsCompacted ix iy mined held new_held pinned new_pinned
-compacted ix new_ix mined made held new_held pinned new_pinned of_all first are is long compacts are_held are_pinned sound is_pinned =
-    subst (λ (i : Indexes). IsCompacted ix i mined held new_held pinned new_pinned) (sym is) (record {
-      sound = sound_after ix mined made held new_held pinned new_pinned of_these are_held of_pins sound is_pinned;
-      lists = lists_after ix mined made held new_held pinned new_pinned of_these are_held of_pins sound is_pinned;
-      are_pinned = pinned_after ix mined made held new_held pinned new_pinned of_these are_held of_pins sound is_pinned;
-      pins = pins_after ix mined made held new_held pinned new_pinned of_these are_held of_pins sound is_pinned;
+pub compacted : (ix iy : Indexes) (low : ℕ) (made : Compaction) (held new_held : List Held) (pinned new_pinned : List Pin) (vs : List Version) (count : ℕ) → vs ≡ versions_of held pinned → iy ≡ indexes_after ix made → count ≡ length held
+    → Compacts ix vs made → AreMade (height_after made) held new_held → AreMade (λ k. pin_after made (count + k)) pinned new_pinned → AreSound ix low held → All (IsPinned ix) pinned → IsCompacted ix iy low held new_held pinned new_pinned
+compacted ix new_ix low made held new_held pinned new_pinned of_all first are is long compacts are_held are_pinned sound is_pinned =
+    subst (λ (i : Indexes). IsCompacted ix i low held new_held pinned new_pinned) (sym is) (record {
+      sound = sound_after ix low made held new_held pinned new_pinned of_these are_held of_pins sound is_pinned;
+      lists = lists_after ix low made held new_held pinned new_pinned of_these are_held of_pins sound is_pinned;
+      coinbases = coinbases_after ix low made held new_held pinned new_pinned of_these are_held of_pins sound is_pinned;
+      are_pinned = pinned_after ix low made held new_held pinned new_pinned of_these are_held of_pins sound is_pinned;
+      pins = pins_after ix low made held new_held pinned new_pinned of_these are_held of_pins sound is_pinned;
     })
   where
     of_these : Compacts ix (versions_of held pinned) made

@@ -204,6 +204,7 @@ repinned old new m pins is same numbered stands =
       lists = stands.lists;
       coinbases = stands.coinbases;
       trees = stands.trees;
+      quorums = stands.quorums;
       top = stands.top;
       lawful = stands.lawful;
       pins = same;

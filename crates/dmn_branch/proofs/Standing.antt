@@ -9,7 +9,10 @@ use Rattle.std.proofs.lemmas.List.{length-drop, length-map, drop-append-le, drop
 use Rattle.dmn_block.specs.declared.frame.BlockFrame.{BlockFrame}
 use Rattle.dmn_block.specs.State.{State, origin}
 use Rattle.dmn_bytes.specs.declared.hash.Hash256.{Hash256}
+use Rattle.dmn_payloads.specs.declared.mined.MinedAt.{MinedAt}
+use Rattle.dmn_quorums.specs.Duty.{active_at, types_of}
 use Rattle.dmn_rows.specs.declared.profile.Profile.{Profile}
+use Rattle.dmn_rows.specs.declared.profile.QuorumParams.{QuorumParams}
 use Rattle.dmn_rows.specs.Row.{plain}
 use Rattle.dmn_branch.specs.declared.fault.DisconnectRefusal.TheVariants.{NotTip, AtStart, TooDeep}
 use Rattle.dmn_branch.specs.Asked.{told, IsToldOf, Lent, Lends}
@@ -20,7 +23,10 @@ use Rattle.dmn_branch.specs.Parts.{StandsIn}
 use Rattle.dmn_branch.specs.Replay.{IsLawful}
 use Rattle.dmn_branch.specs.Coinbases.{coinbase_of}
 use Rattle.dmn_branch.specs.declared.coinbase.CoinbasePart.{CoinbasePart}
-use Rattle.dmn_branch.specs.Stands.{Kept, Keeping, Next, StandsAt, AllStand, AreSound, StandsFor, IsNext, AreFrom, IsKept, IsAboveFloor, kept_in, low_of, low_kept}
+use Rattle.dmn_branch.specs.Stands.{Kept, Keeping, Next, StandsAt, AllStand, AreSound, StandsFor, IsNext, AreFrom, IsKept, GivesActive, IsAboveFloor, KeepsActive, lists_in, low_of, low_kept, tip_kept}
+use Rattle.dmn_branch.proofs.Active.{StatesTo, gives_less, gives_more}
+use Rattle.dmn_branch.proofs.Every.{every_at, every_both, every_then}
+use Rattle.dmn_branch.proofs.History.{state_of_tip, tip_at}
 use Rattle.dmn_branch.proofs.Holding.{all_trees}
 use Rattle.dmn_branch.proofs.Replaying.{history_next, lawful_next, top_more, taken_back}
 
@@ -141,7 +147,7 @@ held_place : (height first low : ℕ) → first ≤ low → low ≤ height → l
 held_place height first low one two = omega (arith, one, two)
 
 -- the state of a height that is held, among those that are held
-state_held : (branch : Keeping) (m : MachineState) (height : ℕ) → StandsFor branch m → low_kept branch ≤ height → state_at m height ≡ slice_get (held_states m) (height - low_kept branch)
+pub state_held : (branch : Keeping) (m : MachineState) (height : ℕ) → StandsFor branch m → low_kept branch ≤ height → state_at m height ≡ slice_get (held_states m) (height - low_kept branch)
 state_held branch m height stands held =
     let low = low_is branch m stands in
     let place : below m + (height - low_kept branch) ≡ height - (m.start.first - 1) =
@@ -198,16 +204,18 @@ pub record IsAdded (old new : Keeping) (prepared : Next) : Type 0 where
   pub first : new.first ≡ old.first
   pub lists : new.lists ≡ drop (low_kept new - low_kept old) (old.lists ++ prepared.kept ∷ [])
   pub coinbases : new.coinbases ≡ drop (low_kept new - low_kept old) (old.coinbases ++ prepared.coinbase ∷ [])
+  pub old_mined : old.mined ≡ new.mined
+  pub mined : prepared.mined ≡ new.mined
   pub top : new.top ≡ max old.top prepared.kept.height
   pub pins : new.pins ≡ old.pins
 
-low_up : (first kept top more : ℕ) → max first (top - kept) ≤ max first (max top more - kept)
+pub low_up : (first kept top more : ℕ) → max first (top - kept) ≤ max first (max top more - kept)
 low_up first kept top more = omega arith
 
 gone : (first low more : ℕ) → first ≤ low → low ≤ more → low - first + (more - low) ≡ more - first
 gone first low more one two = omega (arith, one, two)
 
-pub stands_next : (old new : Keeping) (prepared : Next) (m : MachineState) (block : BlockFrame) → IsAdded old new prepared → 0 < length old.lists → new.lists ≡ map (kept_in new.indexes new.mined) new.held → AreSound new.indexes new.mined new.held → StandsFor old m → IsNext prepared m block → StandsFor new (with_block m block)
+pub stands_next : (old new : Keeping) (prepared : Next) (m : MachineState) (block : BlockFrame) → IsAdded old new prepared → 0 < length old.lists → new.lists ≡ lists_in new.indexes (low_kept new) new.held → AreSound new.indexes (low_kept new) new.held → StandsFor old m → IsNext prepared m block → StandsFor new (with_block m block)
 stands_next old new prepared m block added some read sound stands next =
     let n = with_block m block in
     let one = tip n ∷ [] in
@@ -236,12 +244,18 @@ stands_next old new prepared m block added some read sound stands next =
     ∙ ap (drop by) (sym (map-append coinbase_of (held_states m) one))
     ∙ drop-map coinbase_of by (held_states m ++ one)
     ∙ ap (map coinbase_of) states in
+    let before = subst (λ (l : List MinedAt). KeepsActive (machine.profile m) l (tip m).height (held_states m)) added.old_mined stands.quorums in
+    let more = subst (λ (l : List MinedAt). KeepsActive (machine.profile m) l (tip n).height one) added.mined next.quorums in
+    let quorums : KeepsActive (machine.profile n) new.mined (tip n).height (held_states n) =
+    subst (KeepsActive (machine.profile m) new.mined (tip n).height) states
+    (every_both (λ (p : QuorumParams) (was : GivesActive new.mined (tip m).height (held_states m) p) (is : GivesActive new.mined (tip n).height one p). gives_more new.mined (tip m).height (tip n).height by (held_states m) one p was is) (types_of (machine.profile m).quorums) before more) in
     record {
       profile = profile;
       first = first;
       lists = all;
       coinbases = coinbases;
-      trees = all_trees new.indexes new.mined new.held (held_states n) sound.versions (subst (λ (l : List Kept). AllStand l (held_states n)) read all);
+      trees = all_trees new.indexes (low_kept new) new.held (held_states n) sound.versions (subst (λ (l : List Kept). AllStand l (held_states n)) read all);
+      quorums = quorums;
       top = top;
       lawful = lawful_next m block n next.accepted stands.lawful;
       pins = added.pins ∙ stands.pins;
@@ -266,6 +280,7 @@ pub record IsLess (old new : Keeping) : Type 0 where
   pub lists : old.lists ≡ new.lists ++ last ∷ []
   pub coinbase : Option CoinbasePart
   pub coinbases : old.coinbases ≡ new.coinbases ++ coinbase ∷ []
+  pub mined : new.mined ≡ old.mined
   pub top : new.top ≡ old.top
   pub pins : new.pins ≡ old.pins
 
@@ -284,7 +299,7 @@ blocks_some : (m : MachineState) → IsLawful m.start (machine.branch m) → 1 <
 unfolding history
 blocks_some m lawful some = omega (arith, lawful, some)
 
-pub stands_back : (old new : Keeping) (m : MachineState) (hash : Hash256) → IsLess old new → 0 < length new.lists → new.lists ≡ map (kept_in new.indexes new.mined) new.held → AreSound new.indexes new.mined new.held → StandsFor old m → StandsFor new (without_tip m hash)
+pub stands_back : (old new : Keeping) (m : MachineState) (hash : Hash256) → IsLess old new → 0 < length new.lists → new.lists ≡ lists_in new.indexes (low_kept new) new.held → AreSound new.indexes (low_kept new) new.held → StandsFor old m → StandsFor new (without_tip m hash)
 stands_back old new m hash less some read sound stands =
     let n = without_tip m hash in
     let lists : length old.lists ≡ length new.lists + 1 = ap length less.lists ∙ length-append new.lists (less.last ∷ []) in
@@ -303,12 +318,15 @@ stands_back old new m hash less some read sound stands =
     let all : AllStand new.lists (held_states n) = stands_less new.lists (held_states n) less.last back.last both in
     let coinbases : new.coinbases ++ less.coinbase ∷ [] ≡ map coinbase_of (held_states n) ++ coinbase_of back.last ∷ [] =
     sym less.coinbases ∙ stands.coinbases ∙ ap (map coinbase_of) states ∙ map-append coinbase_of (held_states n) one in
+    let lower : (tip n).height ≤ (tip m).height = omega (arith, (tip_at n).height, (tip_at m).height, count) in
+    let before = subst (λ (l : List MinedAt). KeepsActive (machine.profile m) l (tip m).height (held_states n ++ one)) (sym less.mined) (subst (KeepsActive (machine.profile m) old.mined (tip m).height) states stands.quorums) in
     record {
       profile = less.profile ∙ stands.profile;
       first = less.first ∙ stands.first;
       lists = all;
       coinbases = front_same new.coinbases (map coinbase_of (held_states n)) less.coinbase (coinbase_of back.last) coinbases;
-      trees = all_trees new.indexes new.mined new.held (held_states n) sound.versions (subst (λ (l : List Kept). AllStand l (held_states n)) read all);
+      trees = all_trees new.indexes (low_kept new) new.held (held_states n) sound.versions (subst (λ (l : List Kept). AllStand l (held_states n)) read all);
+      quorums = every_then (λ (p : QuorumParams) (was : GivesActive new.mined (tip m).height (held_states n ++ one) p). gives_less new.mined (tip n).height (tip m).height (held_states n) one p lower was) (types_of (machine.profile m).quorums) before;
       top = top;
       lawful = back.lawful;
       pins = less.pins ∙ stands.pins;
@@ -327,6 +345,37 @@ last_height low lists k are is =
     let some = within lists (length lists - 1) k is in
     let at = from_at low lists (length lists - 1) k are is in
     omega (arith, some, at)
+
+-- the height of the tip
+pub tip_height : (branch : Keeping) (m : MachineState) → IsKept branch.profile branch.first branch.top branch.lists → StandsFor branch m → tip_kept branch ≡ (tip m).height
+tip_height branch m kept stands =
+    let last = there branch.lists (length branch.lists - 1) (omega (arith, kept.some)) in
+    omega (arith, kept.some, last_height (low_kept branch) branch.lists last.0 kept.heights last.1, (tip_stands branch m last.0 stands last.1).height)
+  where
+    there : (lists : List Kept) (n : ℕ) → n < length lists → (k : Kept) × (slice_get lists n ≡ Some k)
+    there [] n lt = absurd (omega (arith, lt))
+    there (k ∷ lists) zero lt = (k, refl)
+    there (k ∷ lists) (suc n) lt = there lists n (omega (arith, lt))
+
+-- the commitments give the active quorums of the tip
+pub tip_gives : (branch : Keeping) (m : MachineState) → IsKept branch.profile branch.first branch.top branch.lists → StandsFor branch m → KeepsActive (machine.profile m) branch.mined (tip m).height (tip m ∷ [])
+tip_gives branch m kept stands =
+    let low : low_kept branch ≤ (tip m).height = omega (arith, kept.some, tip_height branch m kept stands) in
+    let place = (tip m).height - low_kept branch in
+    let there : slice_get (held_states m) place ≡ Some (tip m) = sym (state_held branch m (tip m).height stands low) ∙ state_of_tip m in
+    every_then (λ (p : QuorumParams) (gives : GivesActive branch.mined (tip m).height (held_states m) p). record {
+      ordered = gives.ordered;
+      active = (every_at (λ (s : State). active_at branch.mined p s.height ≡ active_at s.mined p s.height) (held_states m) place (tip m) gives.active there, tt);
+    }) (types_of (machine.profile m).quorums) stands.quorums
+
+-- what is held is of states at or below the last height
+pub states_below : (height top : ℕ) (lists : List Kept) (states : List State) → AllStand lists states → AreFrom height lists → height + length lists ≤ top + 1 → StatesTo top states
+states_below height top [] [] all are few = tt
+states_below height top [] (s ∷ states) all are few = absurd all
+states_below height top (k ∷ lists) [] all are few = absurd all
+states_below height top (k ∷ lists) (s ∷ states) all are few =
+    let at : StandsAt k s = all.0 in
+    (omega (arith, at.height, are.0, few), states_below (suc height) top lists states all.1 are.1 (omega (arith, few)))
 
 from_more : (height : ℕ) (lists : List Kept) (k : Kept) → AreFrom height lists → k.height ≡ height + length lists → AreFrom height (lists ++ k ∷ [])
 from_more height [] k are is = (is ∙ omega arith, tt)

@@ -1,10 +1,13 @@
 -- A branch without blocks.
-use Rattle.std.proofs.Common.{◌≡◌, ◌-◌, ◌≤◌, false, length, List, [], ◌∷◌, map, refl, subst, arith, ℕ, max, drop, true, ◌==◌, Bool, cond, None, sym, ap, ◌∙◌}
+use Rattle.std.proofs.Common.{◌≡◌, ◌-◌, ◌<◌, ◌≤◌, false, length, List, [], ◌∷◌, map, refl, subst, arith, ℕ, max, drop, true, ◌==◌, Bool, cond, None, sym, ap, ◌∙◌}
 use Rattle.std.specs.List.{AllByRecursion}
 use Rattle.std.proofs.lemmas.Bool.{not-true}
 use Rattle.dmn_block.specs.State.{origin}
 use Rattle.dmn_bytes.specs.Points.{is_zero}
 use Rattle.dmn_merkle.specs.Defs.{merkle_root}
+use Rattle.dmn_payloads.specs.declared.mined.MinedAt.{MinedAt}
+use Rattle.dmn_rows.specs.declared.profile.Profile.{Profile}
+use Rattle.dmn_rows.specs.declared.profile.QuorumParams.{QuorumParams}
 use Rattle.dmn_rows.specs.declared.start.StartRecord.{StartRecord}
 use Rattle.dmn_rows.specs.Defs.{KeepsBounds}
 use Rattle.dmn_rows.specs.Listing.{OutputsAscend}
@@ -16,7 +19,8 @@ use Rattle.dmn_branch.specs.Step.{profile_of}
 use Rattle.dmn_branch.specs.Machine.{MachineState, begun, held_states, history, top}
 use Rattle.dmn_branch.specs.Pins.{no_pins}
 use Rattle.dmn_branch.specs.Coinbases.{coinbase_of}
-use Rattle.dmn_branch.specs.Stands.{Kept, Keeping, AllStand, AreSound, HoldsBase, IsWhole, IsKept, StandsAt, StandsFor, first_kept, kept_in}
+use Rattle.dmn_branch.specs.Stands.{Kept, Keeping, AllStand, AreSound, HoldsBase, IsWhole, IsKept, KeepsActive, StandsAt, StandsFor, first_kept, lists_in, low_kept, low_of}
+use Rattle.dmn_branch.proofs.Every.{every_by}
 use Rattle.dmn_branch.proofs.Holding.{all_trees}
 
 pub start_bounds : (start : StartRecord) → start_record.Fits start → KeepsBounds start
@@ -34,7 +38,6 @@ first_whole : (start : StartRecord) → is_zero start.hash.0 ≡ false → lengt
 unfolding merkle_root
 first_whole start hash few ascending = record {
   hash = hash;
-  root = refl;
   keys = record { hashes = tt; owners = tt; operators = tt; services = tt; collaterals = tt };
   rows = tt;
   outputs = ascending;
@@ -49,7 +52,7 @@ begins_whole start fits = first_whole start (start_hash start fits) (start_bound
 
 first_stands : (start : StartRecord) → start_record.Fits start → StandsAt (first_kept start) (origin start)
 unfolding merkle_root
-first_stands start fits = record { height = refl; hash = refl; root = refl; rows = refl; outputs = refl; mined = refl; whole = begins_whole start fits }
+first_stands start fits = record { height = refl; hash = refl; root = refl; rows = refl; outputs = refl; whole = begins_whole start fits }
 
 -- a branch that has just begun
 pub record IsBegun (branch : Keeping) (start : StartRecord) : Type 0 where
@@ -57,6 +60,7 @@ pub record IsBegun (branch : Keeping) (start : StartRecord) : Type 0 where
   pub first : branch.first ≡ start.first
   pub lists : branch.lists ≡ first_kept start ∷ []
   pub coinbases : branch.coinbases ≡ None ∷ []
+  pub mined : branch.mined ≡ []
   pub top : branch.top ≡ start.first - 1
   pub pins : branch.pins ≡ no_pins
 
@@ -64,12 +68,15 @@ pub record IsBegun (branch : Keeping) (start : StartRecord) : Type 0 where
 low_start : (first kept : ℕ) → max first (first - kept) ≡ first
 low_start first kept = omega arith
 
+pub low_first : (profile : Profile) (first : ℕ) → low_of profile first (first - 1) ≡ first - 1
+low_first profile first = low_start (first - 1) profile.kept
+
 deep_by : (small : Bool) → (cond small small_profile main_profile).depth ≤ (cond small small_profile main_profile).kept
 deep_by true = omega arith
 deep_by false = omega arith
 
 -- the heights that are held are at least as many as a tip may go back
-deep : (start : StartRecord) → (profile_of start).depth ≤ (profile_of start).kept
+pub deep : (start : StartRecord) → (profile_of start).depth ≤ (profile_of start).kept
 deep start = deep_by (start.profile == 1)
 
 bases_by : (small : Bool) → AllByRecursion (HoldsBase (cond small small_profile main_profile)) (types_of (cond small small_profile main_profile).quorums)
@@ -86,6 +93,14 @@ bases_by false = (
 pub bases : (start : StartRecord) → AllByRecursion (HoldsBase (profile_of start)) (types_of (profile_of start).quorums)
 bases start = bases_by (start.profile == 1)
 
+active_by : (small : Bool) → AllByRecursion (λ (p : QuorumParams). 0 < p.active) (types_of (cond small small_profile main_profile).quorums)
+active_by true = (omega arith, tt)
+active_by false = (omega arith, (omega arith, (omega arith, tt)))
+
+-- of each type the last commitment is active
+pub some_active : (start : StartRecord) → AllByRecursion (λ (p : QuorumParams). 0 < p.active) (types_of (profile_of start).quorums)
+some_active start = active_by (start.profile == 1)
+
 -- what a branch keeps that has just begun
 pub start_kept : (start : StartRecord) → start_record.Fits start → IsKept (profile_of start) start.first (start.first - 1) (first_kept start ∷ [])
 start_kept start fits =
@@ -100,7 +115,7 @@ start_kept start fits =
       bases = bases start;
     }
 
-pub start_stands : (branch : Keeping) (start : StartRecord) → start_record.Fits start → IsBegun branch start → branch.lists ≡ map (kept_in branch.indexes branch.mined) branch.held → AreSound branch.indexes branch.mined branch.held → StandsFor branch (begun start)
+pub start_stands : (branch : Keeping) (start : StartRecord) → start_record.Fits start → IsBegun branch start → branch.lists ≡ lists_in branch.indexes (low_kept branch) branch.held → AreSound branch.indexes (low_kept branch) branch.held → StandsFor branch (begun start)
 unfolding history top
 start_stands branch start fits begins read sound =
     let m : MachineState = begun start in
@@ -113,7 +128,9 @@ start_stands branch start fits begins read sound =
       first = begins.first;
       lists = lists;
       coinbases = begins.coinbases ∙ ap (map coinbase_of) states;
-      trees = all_trees branch.indexes branch.mined branch.held (held_states m) sound.versions (subst (λ (l : List Kept). AllStand l (held_states m)) read lists);
+      trees = all_trees branch.indexes (low_kept branch) branch.held (held_states m) sound.versions (subst (λ (l : List Kept). AllStand l (held_states m)) read lists);
+      quorums = subst (λ (l : List MinedAt). KeepsActive (profile_of start) l (start.first - 1) (held_states m)) (sym begins.mined)
+          (subst (KeepsActive (profile_of start) [] (start.first - 1)) states (every_by (λ (p : QuorumParams). record { ordered = tt; active = (refl, tt) }) (types_of (profile_of start).quorums)));
       top = begins.top;
       lawful = refl;
       pins = begins.pins;

@@ -49,7 +49,7 @@ use Rattle.dmn_branch.specs.declared.fault.PrepareFault.TheVariants as faults
 use Rattle.dmn_branch.specs.Fault.{of_shape, Tells, TellsRule}
 use Rattle.dmn_branch.specs.Events.{confirmations, once_there, spend_events}
 use Rattle.dmn_branch.specs.Quorums.{Committed, none_committed}
-use Rattle.dmn_branch.specs.Parts.{Given, IsWorking, Follows, given_of, counted_at, outcome_of, from_place}
+use Rattle.dmn_branch.specs.Parts.{Given, IsWithin, IsWorking, Follows, given_of, counted_at, outcome_of, from_place}
 use Rattle.dmn_branch.specs.Stands.{Kept, kept_of, IsWhole, StandsAt}
 use Rattle.dmn_branch.specs.Step.{Outcome, transactions, most_events, most_rows, coinbase_in, marked, last_rules, state_of, shaped, stood, transacted, dutiful, spent, after_payment, outcome, closed, step_from, events_in}
 use Rattle.dmn_branch.proofs.Confirming.{confirmed_all}
@@ -65,7 +65,7 @@ none_behind (Some refusal) b e = absurd cc
 pub behind : (xs ys : Numbered) → first_broken (unnumbered (xs ++ ys)) ≡ None → first_broken (unnumbered ys) ≡ None
 behind xs ys e = none_behind (first_broken (unnumbered xs)) (first_broken (unnumbered ys)) (sym (first_broken_append xs ys) ∙ e)
 
-coinbase_kept : (block : BlockFrame) (tip : Hash256) (height : ℕ) → broken_rule block tip height ≡ None → first_broken (unnumbered (coinbase_rules (height + 1) block.txs)) ≡ None
+pub coinbase_kept : (block : BlockFrame) (tip : Hash256) (height : ℕ) → broken_rule block tip height ≡ None → first_broken (unnumbered (coinbase_rules (height + 1) block.txs)) ≡ None
 coinbase_kept block tip height e =
     behind (verdict_rules block) _ (behind (id_rules block) _ (behind (tx_rules block) _ (behind (link_rules block tip height) _ e)))
 
@@ -272,9 +272,9 @@ module _ (profile : Profile) (formed : List Formed) (tip : Kept) (state : State)
       last_refuses refusal broken = rw (outcome_is) (rw (broken_last, broken) refl)
 
       -- nothing refuses
-      pub follows : (kept : Kept) → kept ≡ kept_of h block.hash value.rows (listing after) (tip.mined ++ mined_at h committed.mined) → first_broken (unnumbered (last_rules (Some value) (outcome_of after committed.mined))) ≡ None → IsWhole kept → Follows profile formed state block after.events kept
+      pub follows : (kept : Kept) (old new : List MinedAt) → kept ≡ kept_of h block.hash value.rows (listing after) → new ≡ old ++ mined_at h committed.mined → first_broken (unnumbered (last_rules (Some value) (outcome_of after committed.mined))) ≡ None → IsWhole kept → Follows profile formed state block after.events kept old new
       unfolding step_from closed
-      follows kept is none whole = record {
+      follows kept old new is adds none whole = record {
         after = state_of state block (seen_outcome h after committed.mined);
         stepped = rw (outcome_is) (rw (broken_last, none) refl);
         counted = sym (ap events_in outcome_is);
@@ -284,9 +284,9 @@ module _ (profile : Profile) (formed : List Formed) (tip : Kept) (state : State)
           root = rw is ((last_says value (outcome_of after committed.mined) none).root ∙ ap root_of (sym (simple_seen h after.rows)));
           rows = rw is (ap (λ (n : ℕ). plain_rows n after.rows) height_is);
           outputs = rw is refl;
-          mined = rw is (ap (λ (l : List MinedAt). l ++ mined_at h committed.mined) at.mined ∙ ap (λ (n : ℕ). state.mined ++ mined_at n committed.mined) (sym height_is));
           whole = whole;
         };
+        added = record { commitments = committed.mined; mined = refl; is = adds ∙ ap (λ (n : ℕ). old ++ mined_at n committed.mined) (sym height_is) };
       }
 
 -- ---- what faults tell
@@ -321,16 +321,18 @@ working_spent h txs judged after spending working = rw spending (record {
   penalties = spend_all (λ row. row.penalty_at ≤ h) txs judged working.penalties;
 })
 
-pub next_whole : (h : ℕ) (hash : Hash256) (value : CbTx) (after : Worked) (mined : List MinedAt) → is_zero hash.0 ≡ false → IsWorking h after.rows → OutputsAscend after.outputs → first_broken (unnumbered (last_rules (Some value) (outcome_of after []))) ≡ None → IsWhole (kept_of h hash value.rows (listing after) mined)
-next_whole h hash value after mined some working outputs none =
-    let lawful = last_says value (outcome_of after []) none in
-    record {
-      hash = some;
-      root = lawful.root;
-      keys = working.keys;
-      rows = working.ascending;
-      outputs = outputs;
-      penalties = working.penalties;
-      masternodes = lawful.rows;
-      collaterals = lawful.outputs;
-    }
+pub next_whole : (h : ℕ) (hash root : Hash256) (after : Worked) → is_zero hash.0 ≡ false → IsWorking h after.rows → OutputsAscend after.outputs → IsWithin after → IsWhole (kept_of h hash root (listing after))
+next_whole h hash root after some working outputs few = record {
+  hash = some;
+  keys = working.keys;
+  rows = working.ascending;
+  outputs = outputs;
+  penalties = working.penalties;
+  masternodes = few.masternodes;
+  collaterals = few.collaterals;
+}
+
+-- the root that is kept of the tip is that of its stored rows
+pub tip_root : (tip : Kept) (state : State) (list : Worked) → StandsAt tip state → listing list ≡ record { rows = tip.rows; outputs = tip.outputs } → tip.root ≡ root_of (simple list.rows)
+tip_root tip state list at same =
+    at.root ∙ ap (λ (rows : List MnRow). root_of (simple rows)) (sym at.rows) ∙ ap root_of (simple_seen state.height tip.rows) ∙ ap (λ (l : Listing). root_of (simple l.rows)) (sym same)

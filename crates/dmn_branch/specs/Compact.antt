@@ -8,7 +8,6 @@ use Rattle.dmn_indexes.specs.declared.indexes.Indexes.{Indexes}
 use Rattle.dmn_indexes.specs.declared.version.Version.{Version}
 use Rattle.dmn_indexes.specs.Keys.{owner_cmp, operator_cmp, service_cmp, pay_cmp, unconfirmed_cmp}
 use Rattle.dmn_versions.specs.declared.arena.Arena.{Arena}
-use Rattle.dmn_versions.specs.declared.node.Node.{Node}
 use Rattle.dmn_versions.specs.declared.node.Root.{Root}
 use Rattle.dmn_versions.specs.Trees.{IsSound}
 use Rattle.dmn_walk.specs.Copy.{Moves}

@@ -6,8 +6,12 @@ pub mod Replay
 pub mod Pins
 pub mod Machine
 pub mod Coinbases
+pub mod Items
 pub mod Stands
 pub mod Compact
 pub mod Asked
+pub mod Holds
+pub mod Taking
+pub mod Telling
 pub mod Fault
 pub mod Parts

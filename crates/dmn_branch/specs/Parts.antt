@@ -1,5 +1,5 @@
 -- Words for the private parts, which work on rows as they are stored.
-use Rattle.std.specs.Prelude.{◌≡◌, ℕ, ◌≤◌, ◌+◌, ◌-◌, ◌++◌, Bool, List, drop, map, slice_get, Option, None, Some, Result, Ok, if◌then◌else◌}
+use Rattle.std.specs.Prelude.{◌≡◌, ℕ, ◌≤◌, ◌+◌, ◌-◌, ◌++◌, Bool, List, drop, length, map, slice_get, Option, None, Some, Result, Ok, if◌then◌else◌}
 use Rattle.std.specs.List.{All}
 use Rattle.dmn_block.specs.declared.frame.BlockFrame.{BlockFrame}
 use Rattle.dmn_block.specs.declared.refusal.Refusal.{Refusal}
@@ -22,13 +22,15 @@ use Rattle.dmn_rows.specs.declared.verdict.Verdict.{Verdict}
 use Rattle.dmn_rows.specs.Distinct.{HasDistinctKeys}
 use Rattle.dmn_rows.specs.Listing.{IsAscending}
 use Rattle.dmn_rows.specs.Rows.{Outputs, plain_rows}
+use Rattle.dmn_rows.specs.Start.{most_outputs}
 use Rattle.dmn_tx.specs.declared.tx.Tx.{Tx}
 use Rattle.dmn_versions.specs.declared.node.Root.{Root}
 use Rattle.dmn_versions.specs.Trees.{reads}
 use Rattle.dmn_tx.specs.Tx.{is_special}
+use Rattle.dmn_branch.specs.declared.held.HeightVersion.{HeightVersion}
 use Rattle.dmn_branch.specs.Quorums.{Committed, Punished}
 use Rattle.dmn_branch.specs.Stands.{Kept, Keeping, StandsAt, low_kept, tip_kept}
-use Rattle.dmn_branch.specs.Step.{Setting, Counted, Outcome, changed_by, rule_of, transactions, step_from, events_from, coinbase_in}
+use Rattle.dmn_branch.specs.Step.{Setting, Counted, Outcome, changed_by, rule_of, transactions, step_from, events_from, coinbase_in, most_events, most_rows}
 
 -- what the working rows keep: distinct keys, the order of hashes, and no penalty of a later height
 pub record IsWorking (height : ℕ) (rows : List MnRow) : Type 0 where
@@ -101,7 +103,7 @@ pub record IsMinedAt (height : ℕ) (old new : List MinedAt) : Type 0 where
   pub commitments : List Commitment
   pub is : new ≡ old ++ mined_at height commitments
 
--- no commitment above the tip is kept
+-- no commitment stands above the tip
 abbrev pub IsSettled : Keeping → Type 0
 IsSettled branch = undone (tip_kept branch) branch.mined ≡ branch.mined
 
@@ -110,22 +112,36 @@ abbrev pub StandsIn : Kept → Option State → Type 0
 StandsIn kept None = ⊥
 StandsIn kept (Some state) = StandsAt kept state
 
--- this is kept of the state after a block of so many events, which no rule refuses
-pub record Follows (profile : Profile) (formed : List Formed) (state : State) (block : BlockFrame) (events : ℕ) (next : Kept) : Type 0 where
+-- These commitments are the block's, and are added behind those of before; to those of a state the same ones are added.
+pub record AddsMined (state after : State) (old new : List MinedAt) : Type 0 where
+  pub commitments : List Commitment
+  pub mined : after.mined ≡ state.mined ++ mined_at after.height commitments
+  pub is : new ≡ old ++ mined_at after.height commitments
+
+-- This is kept of the state after a block of so many events, which no rule refuses, and the block's commitments were added.
+pub record Follows (profile : Profile) (formed : List Formed) (state : State) (block : BlockFrame) (events : ℕ) (next : Kept) (old new : List MinedAt) : Type 0 where
   pub after : State
   pub stepped : step_from profile formed state block ≡ Ok after
   pub counted : events ≡ events_from profile formed state block
   pub stands : StandsAt next after
+  pub added : AddsMined state after old new
 
--- The block has the right shape to follow on what is kept of the tip, its coinbase has this payload, the working list is the
--- tip's, before the first event, and so are the commitments.
-pub record IsTip (tip : Kept) (block : BlockFrame) (coinbase : CbTx) (list : Worked) (before : List MinedAt) : Type 0 where
+-- no more events, rows and outputs than a block and a list may have
+pub record IsWithin (list : Worked) : Type 0 where
+  pub events : list.events ≤ most_events
+  pub masternodes : length list.rows ≤ most_rows
+  pub collaterals : length list.outputs ≤ most_outputs
+
+-- This is kept of the tip, the block has the right shape to follow on it, the block's coinbase has this payload, and the working
+-- list is the tip's, before the first event.
+pub record IsTip (tip : Kept) (last : HeightVersion) (block : BlockFrame) (coinbase : CbTx) (list : Worked) : Type 0 where
+  pub hash : tip.hash ≡ last.hash
+  pub root : tip.root ≡ last.root
   pub shape : broken_rule block tip.hash tip.height ≡ None
   pub payload : coinbase_in block.txs ≡ Some coinbase
   pub next : coinbase.height ≡ tip.height + 1
   pub same : listing list ≡ record { rows = tip.rows; outputs = tip.outputs }
   pub none : list.events ≡ 0
-  pub mined : tip.mined ≡ before
 
 -- what `==` answers at stored rows
 abbrev pub same_row : MnRow → MnRow → Bool

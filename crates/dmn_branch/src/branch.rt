@@ -8,11 +8,12 @@ ghost use Rattle.dmn_block.specs.Defs.{IsBlock};
 ghost use Rattle.dmn_block.specs.declared.frame.BlockFrame.{BlockFrame};
 ghost use Rattle.dmn_bytes.specs.declared.hash.Hash256.{Hash256};
 ghost use Rattle.dmn_bytes.specs.Points.{hash_cmp};
+ghost use Rattle.dmn_held.specs.Defs.{IsHeld as HasForm};
 ghost use Rattle.dmn_indexes.specs.Marks.{Cut, IsBelow, SameNodes};
 ghost use Rattle.dmn_indexes.specs.Version.{GrownBy};
 ghost use Rattle.dmn_indexes.specs.Version as versions;
 ghost use Rattle.dmn_rows.specs.declared.profile.Profile.{Profile};
-ghost use Rattle.dmn_rows.specs.Defs.{KeepsBounds};
+ghost use Rattle.dmn_rows.specs.Defs.{IsStart, KeepsBounds};
 ghost use Rattle.dmn_rows.specs.Listing.{OutputsAscend};
 ghost use Rattle.dmn_rows.specs.Rows.{plain_rows};
 ghost use Rattle.dmn_rows.specs.Start.{start_record};
@@ -22,21 +23,24 @@ ghost use Rattle.dmn_branch.specs.Coinbases.{coinbase_of, part_of};
 ghost use Rattle.dmn_branch.specs.Compact.{MoreByAtMost};
 ghost use Rattle.dmn_branch.specs.declared.held.Held.{Held};
 ghost use Rattle.dmn_branch.specs.Fault.{Tells, TellsFull, TellsRule};
+ghost use Rattle.dmn_branch.specs.Holds.{Holds};
 ghost use Rattle.dmn_branch.specs.Machine as machine;
 ghost use Rattle.dmn_branch.specs.Machine.{MachineState};
 ghost use Rattle.dmn_branch.specs.Parts.{StandsIn, IsSettled, IsTreeOf, all_formed_in, formed_in};
-ghost use Rattle.dmn_branch.specs.Pins.{free_number, number_after, pin_of};
+ghost use Rattle.dmn_branch.specs.Pins.{free_number, no_pins, number_after, pin_of};
 ghost use Rattle.dmn_quorums.specs.Duty.{types_of};
-ghost use Rattle.dmn_branch.specs.Stands.{StandsFor, IsAlike, IsNext, IsReady, IsHeld, IsLeft, HoldsBase, kept_in, low_kept, marks_over, prepared_in, IsAboveFloor, low_of, floor_kept};
+ghost use Rattle.dmn_branch.specs.Stands.{StandsFor, IsAlike, IsNext, IsReady, IsHeld, IsLeft, IsWhole, HoldsBase, kept_at, kept_in, low_kept, marks_over, prepared_in, tip_kept, IsAboveFloor, low_of, floor_kept};
+ghost use Rattle.dmn_branch.specs.Replay.{IsLawful};
 ghost use Rattle.dmn_branch.specs.Step.{profile_of as profile_by, most_rows};
 ghost use Rattle.dmn_walk.specs.Page.{IsReady as IsReadable, pairs_left};
 
 use crate::asked::{payees_of, row_of};
 use crate::change::{RowChange, change};
-use crate::coinbase::{CoinbasePart, coinbase_part};
-use crate::compaction::{Compaction, is_due, renew_held, versions};
+use crate::coinbase::coinbase_part;
+use crate::compaction::{Compaction, is_due, versions};
 use crate::fault::{DisconnectRefusal, PinFault, PrepareFault};
-use crate::held::{Held, Prepared};
+use crate::from_data::{fits_heights, held_list, mined_of};
+use crate::held::{HeightVersion, Held, HeldList, Prepared};
 use crate::listing::Listing;
 use crate::origin::origin;
 use crate::pins::{Pin, PinList};
@@ -44,12 +48,15 @@ use crate::quorums::{inside, members_of};
 use crate::setting::Setting;
 use crate::step::advance;
 use crate::tip::Tip;
+use crate::to_data::data_of;
 use dmn_block::{BlockFrame, Refusal, check_shape};
 use dmn_bytes::{Hash256, Memory, is_zero};
+use dmn_held::SnapshotData;
 use dmn_indexes::Indexes;
 use dmn_merkle::Branching;
 use dmn_payloads::Commitment;
 use dmn_quorums::{Forming, Mined, base_of, in_window, params_of};
+use dmn_restore::{DataFault, restore};
 use dmn_rows::{MnRow, Profile, QuorumParams, Rule, StartRecord, profile_of};
 use dmn_tx::Tx;
 use dmn_versions::Root;
@@ -61,31 +68,30 @@ use std::marker::Model;
 #[derive(Drop)]
 pub struct Branch {
     profile: Profile,
+    // The height of the first block.
     first: u32,
-    indexes: Indexes,
-    // From the lowest height that is held to the tip's.
-    held: Vec<Held>,
-    // One for each of these; none at the height before the first block.
-    coinbases: Vec<Option<CoinbasePart>>,
-    // Those that aren't null. Above the tip stand only those of a block that was prepared.
-    mined: Mined,
+    // The greatest height that the tip had so far.
     top: u32,
+    indexes: Indexes,
     // How many nodes each arena had after its last compaction.
     after: [u64; 8],
+    held: HeldList,
+    // Those that aren't null. Above the tip stand only those of a block that was prepared.
+    mined: Mined,
     pins: PinList,
     next_pin: Option<u32>,
 }
 
 impl Model for Branch {
-    ghost use Rattle.std.specs.Prelude.{◌≡◌, ◌-◌, length, map, vec_len, vec_capacity};
+    ghost use Rattle.std.specs.Prelude.{map};
     ghost use Rattle.std.specs.List.{All};
-    ghost use Rattle.dmn_branch.specs.Stands.{Keeping, IsKept, IsPinned, AreSound, kept_in, pins_in};
+    ghost use Rattle.dmn_branch.specs.Stands.{Keeping, IsKept, IsPinned, AreSound, lists_in, low_of, pins_in};
 
     ghost Value = { Keeping };
 
-    ghost view = { λ a. record { profile = a.profile; first = a.first; indexes = a.indexes; held = a.held.items; mined = a.mined; lists = map (kept_in a.indexes a.mined) a.held.items; coinbases = a.coinbases.items; top = a.top; room = vec_capacity a.held - vec_len a.held; coinbase_room = vec_capacity a.coinbases - vec_len a.coinbases; pinned = a.pins; pins = pins_in a.indexes a.pins a.next_pin } };
+    ghost view = { λ a. record { profile = a.profile; first = a.first; indexes = a.indexes; held = a.held.held; mined = a.mined; lists = lists_in a.indexes (low_of a.profile a.first a.top) a.held.held; coinbases = map (λ h. h.coinbase) a.held.held; top = a.top; room = a.held.room; pinned = a.pins; pins = pins_in a.indexes a.pins a.next_pin } };
 
-    ghost invariant = { λ a. IsKept a.profile a.first a.top (map (kept_in a.indexes a.mined) a.held.items) × AreSound a.indexes a.mined a.held.items × All (IsPinned a.indexes) a.pins × (length a.coinbases.items ≡ length a.held.items) };
+    ghost invariant = { λ a. IsKept a.profile a.first a.top (lists_in a.indexes (low_of a.profile a.first a.top) a.held.held) × AreSound a.indexes (low_of a.profile a.first a.top) a.held.held × All (IsPinned a.indexes) a.pins };
 }
 
 // The profile of a start record.
@@ -99,44 +105,12 @@ fn profile_by(start: &StartRecord) -> Profile
     }
 }
 
-// The height whose block has the hash.
-fn height_in(held: &[Held], hash: &Hash256) -> Option<u32>
-    ensures { result ≡ option_map (λ h. h.height) (find (λ h. bytes_eq h.hash.0 hash.now.0) held.now) }
-{
-    held.iter()
-        .find(|held| held.hash == *hash)
-        .map(|held| held.height)
-}
-
 // The lowest height that is held.
 fn low_of(profile: &Profile, first: u32, top: u32) -> u32
     requires { 1 ≤ first }
     ensures { result ≡ low_of profile.now first top }
 {
     (first - 1).max(top.saturating_sub(profile.kept))
-}
-
-// Makes room for one block more.
-fn make_room(held: &mut Vec<Held>, coinbases: &mut Vec<Option<CoinbasePart>>) -> Result<(), Memory>
-    ensures held { held.new.items ≡ held.old.items }
-    ensures coinbases { coinbases.new.items ≡ coinbases.old.items }
-    ensures room { OnOk result (vec_len held.new < vec_capacity held.new) }
-    ensures coinbase_room { OnOk result (vec_len coinbases.new < vec_capacity coinbases.new) }
-{
-    held.reserve(1).map_err(|_| Memory)?;
-    coinbases.reserve(1).map_err(|_| Memory)?;
-    Ok(())
-}
-
-// Of what is held from one height on, keeps what is from another on, which is at most one height above it.
-fn keep_from<T: Drop>(held: &mut Vec<T>, height: u32, low: u32)
-    requires some { 0 < length held.old.items }
-    requires next { low ≤ height + 1 }
-    ensures { held.new.items ≡ drop (low - height) held.old.items }
-{
-    if height < low {
-        held.remove(0);
-    }
 }
 
 impl Branch {
@@ -148,22 +122,67 @@ impl Branch {
     {
         let mut indexes = Indexes::new(alloc);
         let first = origin(alloc, start, &mut indexes)?;
-        let mut held = Vec::new(alloc);
-        held.push(first).map_err(|_| Memory)?;
-        let mut coinbases = Vec::new(alloc);
-        coinbases.push(None).map_err(|_| Memory)?;
+        let mut held = HeldList::new(alloc);
+        held.push(first)?;
         Ok(Branch {
             profile: profile_by(start),
             first: start.first,
-            indexes,
-            held,
-            coinbases,
-            mined: Mined::new(alloc),
             top: start.first - 1,
+            indexes,
             after: [0; 8],
+            held,
+            mined: Mined::new(alloc),
             pins: PinList::new(alloc),
             next_pin: Some(1),
         })
+    }
+
+    /// The branch of which a snapshot holds this. A snapshot that a branch of this start record wrote is no misfit.
+    pub fn from_data(
+        alloc: Global,
+        start: &StartRecord,
+        held: &SnapshotData,
+    ) -> Result<Branch, DataFault>
+        requires { IsStart start.now }
+        ensures stands { (m : MachineState) → m.start ≡ start.now → IsLawful m.start (machine.branch m) → Holds held.now m → IfOk result (λ branch. StandsFor branch (record m { pins = no_pins })) }
+        ensures fits { (m : MachineState) → m.start ≡ start.now → IsLawful m.start (machine.branch m) → Holds held.now m → IfErr result (λ fault. fault ≡ DataFault.Memory) }
+    {
+        let profile = profile_by(start);
+        let low = low_of(&profile, start.first, held.top);
+        if !fits_heights(&profile, low, held) {
+            return Err(DataFault::Misfit);
+        }
+        let made = restore(alloc, held)?;
+        let list = held_list(alloc, held, made.versions.as_slice())?;
+        let mined = mined_of(alloc, &profile, held)?;
+        Ok(Branch {
+            profile,
+            first: start.first,
+            top: held.top,
+            indexes: made.indexes,
+            after: [0; 8],
+            held: list,
+            mined,
+            pins: PinList::new(alloc),
+            next_pin: Some(1),
+        })
+    }
+
+    /// What a snapshot holds of the branch: its lowest height whole, and each later one as what changed behind the one before
+    /// it, told by the trees.
+    pub fn to_data(&self, alloc: Global) -> Result<SnapshotData, Memory>
+        ensures holds { (m : MachineState) → StandsFor self.now m → IfOk result (λ held. Holds held m) }
+        ensures form { IfOk result HasForm }
+    {
+        data_of(
+            alloc,
+            self.top,
+            self.low(),
+            &self.profile.quorums,
+            &self.indexes,
+            &self.held,
+            self.mined.as_slice(),
+        )
     }
 
     /// The height of the first block.
@@ -176,13 +195,37 @@ impl Branch {
     // What is held of the tip.
     fn last(&self) -> &Held
         ensures held { slice_get self.now.held (length self.now.held - 1) ≡ Some result.now }
-        ensures last { slice_get self.now.lists (length self.now.lists - 1) ≡ Some (kept_in self.now.indexes self.now.mined result.now) }
-        ensures height { result.now.height + 1 ≡ low_kept self.now + length self.now.lists }
+        ensures list { slice_get self.now.lists (length self.now.lists - 1) ≡ Some (kept_in self.now.indexes (tip_kept self.now) result.now) }
+        ensures version { versions.IsWhole self.now.indexes result.now.version }
+        ensures whole { IsWhole (kept_in self.now.indexes (tip_kept self.now) result.now) }
     {
-        match self.held.last() {
-            Some(held) => held,
-            None => unreachable!(),
-        }
+        self.held.get(self.held.len() - 1)
+    }
+
+    // The height at a place of what is held.
+    fn height_at(&self, place: usize) -> u32
+        requires { place < length self.now.held }
+        ensures { result ≡ low_kept self.now + place }
+    {
+        low_of(&self.profile, self.first, self.top) + place as u32
+    }
+
+    // The height of the tip.
+    fn tip_height(&self) -> u32
+        ensures is { result ≡ tip_kept self.now }
+        ensures next { result + 1 ≡ low_kept self.now + length self.now.lists }
+    {
+        self.height_at(self.held.len() - 1)
+    }
+
+    // The tip, as a step takes it.
+    fn front(&self) -> HeightVersion
+        ensures list { slice_get self.now.lists (length self.now.lists - 1) ≡ Some (kept_at self.now.indexes result) }
+        ensures height { result.height + 1 ≡ low_kept self.now + length self.now.lists }
+        ensures version { versions.IsWhole self.now.indexes result.version }
+        ensures whole { IsWhole (kept_at self.now.indexes result) }
+    {
+        self.last().at(self.tip_height())
     }
 
     // The lowest height that is held.
@@ -198,10 +241,10 @@ impl Branch {
         ensures held { (height : ℕ) → result.low ≤ height → height ≤ result.height → IsHeld self.now height }
         ensures here { IsHeld self.now result.height }
     {
-        let last = self.last();
+        let front = self.front();
         Tip {
-            height: last.height,
-            hash: last.hash,
+            height: front.height,
+            hash: front.hash,
             low: self.low(),
             top: self.top,
         }
@@ -227,20 +270,24 @@ impl Branch {
         ensures height { (m : MachineState) → StandsFor self.now m → result ≡ machine.height_of m hash.now }
         ensures held { IfSome result (IsHeld self.now) }
     {
-        height_in(&self.held, hash)
+        match self.held.place_of(hash) {
+            None => None,
+            Some(place) => Some(self.height_at(place)),
+        }
     }
 
     // What is held of a height.
     fn held_at(&self, height: u32) -> &Held
         requires { IsHeld self.now height }
-        ensures stands { (m : MachineState) → StandsFor self.now m → StandsIn (kept_in self.now.indexes self.now.mined result.now) (machine.state_at m height) }
-        ensures list { slice_get self.now.lists (height - low_kept self.now) ≡ Some (kept_in self.now.indexes self.now.mined result.now) }
-        ensures height { result.now.height ≡ height }
+        ensures held { slice_get self.now.held (height - low_kept self.now) ≡ Some result.now }
+        ensures list { slice_get self.now.lists (height - low_kept self.now) ≡ Some (kept_in self.now.indexes height result.now) }
+        ensures coinbase { slice_get self.now.coinbases (height - low_kept self.now) ≡ Some result.now.coinbase }
+        ensures stands { (m : MachineState) → StandsFor self.now m → StandsIn (kept_in self.now.indexes height result.now) (machine.state_at m height) }
         ensures whole { versions.IsWhole self.now.indexes result.now.version }
         ensures few { length (versions.rows_in self.now.indexes result.now.version) ≤ most_rows }
         ensures below { IsBelow result.now.marks result.now.version }
     {
-        &self.held[(height - self.low()) as usize]
+        self.held.get((height - self.low()) as usize)
     }
 
     /// The list of masternodes at a height that is held.
@@ -325,18 +372,10 @@ impl Branch {
         requires { IsHeld self.now height }
         ensures { (m : MachineState) → StandsFor self.now m → IsToldOf coinbase_of (option_map lent_part result) (machine.state_at m height) }
     {
-        match self.coinbase_held_at(height) {
+        match &self.held_at(height).coinbase {
             Some(part) => Some((&part.tx, &part.branch)),
             None => None,
         }
-    }
-
-    // What is held of a height's coinbase.
-    fn coinbase_held_at(&self, height: u32) -> &Option<CoinbasePart>
-        requires { IsHeld self.now height }
-        ensures { slice_get self.now.coinbases (height - low_kept self.now) ≡ Some result.now }
-    {
-        &self.coinbases[(height - self.low()) as usize]
     }
 
     // The tree of the rows of a height that is held; an empty one where none is named.
@@ -412,7 +451,7 @@ impl Branch {
         let versions = versions(alloc, &self.held, &self.pins)?;
         let made = Compaction::new(alloc, &self.indexes, &self.after, versions.as_slice())?;
         self.pins.renew(&made, self.held.len());
-        renew_held(&mut self.held, &made);
+        self.held.renew(&made);
         self.after = made.marks(&self.after);
         made.take_place(&mut self.indexes);
         Ok(())
@@ -425,7 +464,7 @@ impl Branch {
         ensures settled { IsSettled self.new }
         ensures indexes { self.new.indexes ≡ self.old.indexes }
     {
-        let height = self.last().height;
+        let height = self.tip_height();
         self.mined.undo(height);
     }
 
@@ -442,11 +481,11 @@ impl Branch {
         ensures grown { IfOk result (λ prepared. GrownBy (232 * prepared.events) self.old.indexes self.new.indexes) }
         ensures same_nodes { OnErr result (SameNodes self.old.indexes self.new.indexes) }
     {
-        let last = *self.last();
-        let coinbase = check_shape(alloc, block, &last.hash, last.height)?;
+        let front = self.front();
+        let coinbase = check_shape(alloc, block, &front.hash, front.height)?;
         let formings = self.formings(alloc, coinbase.height)?;
         let part = coinbase_part(alloc, block)?;
-        if make_room(&mut self.held, &mut self.coinbases).is_err() {
+        if self.held.reserve().is_err() {
             return Err(PrepareFault::Memory);
         }
         let profile = self.profile;
@@ -455,19 +494,40 @@ impl Branch {
         match advance(
             alloc,
             &setting,
-            &last,
+            &front,
             block,
             &coinbase,
             &mut self.indexes,
             &mut self.mined,
         ) {
             Ok(stepped) => Ok(Prepared {
-                next: stepped.next,
+                next: stepped.next.with_coinbase(part),
                 events: stepped.events,
-                coinbase: part,
             }),
             Err(fault) => Err(fault),
         }
+    }
+
+    /// What is known of the quorum of each type for a block at a height, where that is the one behind the tip's; nothing at
+    /// another.
+    pub fn formings_at(&mut self, alloc: Global, height: u32) -> Result<Vec<Forming>, Memory>
+        ensures formed { (m : MachineState) → StandsFor self.old m → height ≡ (machine.tip m).height + 1 → IfOk result (λ formings. formings.items ≡ machine.formed m) }
+        ensures same { (m : MachineState) → StandsFor self.old m → StandsFor self.new m }
+    {
+        self.settle();
+        self.formings_behind(alloc, height)
+    }
+
+    // The same, where no commitment above the tip is kept.
+    fn formings_behind(&self, alloc: Global, height: u32) -> Result<Vec<Forming>, Memory>
+        requires settled { IsSettled self.now }
+        ensures { (m : MachineState) → StandsFor self.now m → height ≡ (machine.tip m).height + 1 → IfOk result (λ formings. formings.items ≡ machine.formed m) }
+    {
+        let front = self.front();
+        if height == 0 || front.height != height - 1 {
+            return Ok(Vec::new(alloc));
+        }
+        self.formings_of(alloc, height, &self.profile.quorums)
     }
 
     // The quorum of each type at the height behind the tip's.
@@ -539,14 +599,13 @@ impl Branch {
         requires { IsReady self.old prepared }
         ensures { (m : MachineState) (block : BlockFrame) → StandsFor self.old m → IsNext (prepared_in self.old prepared) m block → StandsFor self.new (machine.with_block m block) }
     {
-        let Prepared { next, coinbase, .. } = prepared;
+        let Prepared { next, .. } = prepared;
         let low = self.low();
-        self.top = self.top.max(next.height);
+        let height = self.tip_height() + 1;
+        self.top = self.top.max(height);
         self.held.push_reserved(next);
-        self.coinbases.push_reserved(coinbase);
         let more = low_of(&self.profile, self.first, self.top);
-        keep_from(&mut self.held, low, more);
-        keep_from(&mut self.coinbases, low, more);
+        self.held.keep_from(low, more);
     }
 
     /// Leaves the block that was prepared, and cuts its nodes and its commitments off.
@@ -568,9 +627,10 @@ impl Branch {
         ensures same { (m : MachineState) → StandsFor self.old m → StandsFor self.new m }
         ensures cut { (tip : Held) → slice_get self.new.held (length self.new.held - 1) ≡ Some tip → Cut (marks_over self.new.pinned tip.marks) self.old.indexes self.new.indexes }
     {
-        let last = *self.last();
-        self.indexes.cut(&self.pins.marks_over(&last.marks));
-        self.mined.undo(last.height);
+        let height = self.tip_height();
+        let marks = self.last().marks;
+        self.indexes.cut(&self.pins.marks_over(&marks));
+        self.mined.undo(height);
     }
 
     /// Whether the last block, which is to have this hash, may be taken back: else why not.
@@ -580,15 +640,15 @@ impl Branch {
         ensures accepted { (m : MachineState) → StandsFor self.now m → OnOk result (machine.disconnect m hash.now ≡ Ok (machine.without_tip m hash.now)) }
         ensures above { OnOk result (IsAboveFloor self.now) }
     {
-        let last = self.last();
+        let front = self.front();
         let floor = self.floor();
-        if last.hash != *hash {
-            return Err(DisconnectRefusal::NotTip { tip: last.hash });
+        if front.hash != *hash {
+            return Err(DisconnectRefusal::NotTip { tip: front.hash });
         }
-        if last.height < self.first {
+        if front.height < self.first {
             return Err(DisconnectRefusal::AtStart);
         }
-        if last.height <= floor {
+        if front.height <= floor {
             return Err(DisconnectRefusal::TooDeep { floor });
         }
         Ok(())
@@ -602,7 +662,6 @@ impl Branch {
         ensures cut { (tip : Held) → slice_get self.new.held (length self.new.held - 1) ≡ Some tip → Cut (marks_over self.new.pinned tip.marks) self.old.indexes self.new.indexes }
     {
         self.held.pop();
-        self.coinbases.pop();
         self.cut();
     }
 
@@ -628,15 +687,16 @@ impl Branch {
         ensures full { (m : MachineState) → StandsFor self.old m → IfErr result (TellsFull (free_number m.pins)) }
         ensures same { (m : MachineState) → StandsFor self.old m → OnErr result (StandsFor self.new m) }
     {
-        let held = *self.held_at(height);
+        let held = self.held_at(height);
+        let (root, mark) = (held.version.rows, held.marks[0]);
         let Some(number) = self.free_number() else {
             return Err(PinFault::PinsFull);
         };
         let pin = Pin {
             number,
             height,
-            root: held.version.rows,
-            mark: held.marks[0],
+            root,
+            mark,
         };
         if self.pins.add(pin).is_err() {
             return Err(PinFault::Memory);
@@ -667,5 +727,66 @@ impl Branch {
         }
         self.pins.drop(number);
         true
+    }
+}
+
+#[cfg(test)]
+mod tests {
+    use super::*;
+    use dmn_rows::read_start;
+    use std::process::Abort;
+    use std::test::Fail;
+
+    // Profile 1, first height 2, a hash of ones, no outputs.
+    const START: [u8; 43] = [
+        1, 0, 1, 2, 0, 0, 0, 1, 1, 1, 1, 1, 1, 1, 1, 1, 1, 1, 1, 1, 1, 1, 1, 1, 1, 1, 1, 1, 1, 1,
+        1, 1, 1, 1, 1, 1, 1, 1, 1, 0, 0, 0, 0,
+    ];
+
+    // With a further field this does not compile: a branch keeps no list of rows beside its arenas.
+    #[test]
+    fn these_fields_and_no_more(rt: HostRuntime) -> Result<(), Fail> {
+        let alloc = rt.alloc();
+        let start = read_start(alloc, &START)?;
+        let mut branch = Branch::start(alloc, &start)?;
+        let tip = branch.tip();
+        assert_eq!(rt; branch.pin(tip.height).ok(), Some(1));
+        let Branch {
+            profile: _,
+            first,
+            top,
+            indexes: _,
+            after,
+            held: HeldList { items: mut held },
+            mined: Mined { items: mined },
+            pins: PinList { items: mut pins },
+            next_pin,
+        } = branch;
+        assert_eq!(rt; (first, top, next_pin), (2, 1, Some(2)));
+        assert_eq!(rt; (after, mined.len()), ([0; 8], 0));
+        assert!(rt;
+            matches!(
+                held.pop(),
+                Some(Held {
+                    hash: _,
+                    root: _,
+                    version: _,
+                    coinbase: None,
+                    marks: _
+                })
+            )
+        );
+        assert!(rt;
+            matches!(
+                pins.pop(),
+                Some(Pin {
+                    number: 1,
+                    height: 1,
+                    root: _,
+                    mark: 0
+                })
+            )
+        );
+        Ok(())
     }
 }

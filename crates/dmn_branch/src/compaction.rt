@@ -3,10 +3,10 @@
 
 ghost use Rattle.std.specs.Prelude.{◌≡◌, ◌<◌, ℕ, IfOk, false, length, map};
 ghost use Rattle.std.specs.List.{All, slice_index};
-ghost use Rattle.dmn_branch.specs.Compact.{arena_after, height_after, indexes_after, is_overgrown, mark_after, marks_after, root_of, version_at, versions_of, AreMade, Compacts, HasSoundTrees, HasVersion, Renews};
+ghost use Rattle.dmn_branch.specs.Compact.{arena_after, indexes_after, is_overgrown, mark_after, marks_after, root_of, version_at, versions_of, Compacts, HasSoundTrees, HasVersion, Renews};
 ghost use Rattle.dmn_versions.specs.Trees.{IsSound};
 
-use crate::held::Held;
+use crate::held::HeldList;
 use crate::pins::PinList;
 use dmn_bytes::{Hash256, Memory, OutPoint, Pay};
 use dmn_indexes::{Indexes, OperatorKey, OwnerKey, PayKey, ServiceKey, UnconfirmedKey, Version};
@@ -242,29 +242,11 @@ impl Compaction {
     }
 }
 
-// The version of each height.
-fn held_versions(alloc: Global, held: &[Held]) -> Result<Vec<Version>, Memory>
-    ensures { IfOk result (λ versions. versions.items ≡ map (λ h. h.version) held.now) }
-{
-    Ok(held.iter().map(|held| held.version).collect(alloc)?)
-}
-
 /// The version of each height that is held, and behind them that of each pin.
-pub fn versions(alloc: Global, held: &Vec<Held>, pins: &PinList) -> Result<Vec<Version>, Memory>
-    ensures { IfOk result (λ versions. versions.items ≡ versions_of held.now.items pins.now) }
+pub fn versions(alloc: Global, held: &HeldList, pins: &PinList) -> Result<Vec<Version>, Memory>
+    ensures { IfOk result (λ versions. versions.items ≡ versions_of held.now.held pins.now) }
 {
-    let mut versions = held_versions(alloc, held.as_slice())?;
+    let mut versions = held.versions(alloc)?;
     pins.add_versions(&mut versions)?;
     Ok(versions)
-}
-
-/// Gives each height its new roots, which stand first, and its new marks.
-pub fn renew_held(held: &mut Vec<Held>, made: &Compaction)
-    requires { (place : ℕ) → place < length held.old.items → HasVersion made.now place }
-    ensures { AreMade (height_after made.now) held.old.items held.new.items }
-{
-    for (place, height) in held.iter_mut().enumerate() {
-        height.version = made.version(place);
-        height.marks = made.marks(&height.marks);
-    }
 }

@@ -1,6 +1,6 @@
 //! Laws of the definitions.
 
-ghost use Rattle.std.specs.Prelude.{◌≡◌, ◌+◌, ◌-◌, ◌≤◌, ℕ, Option, length, true};
+ghost use Rattle.std.specs.Prelude.{◌≡◌, ◌+◌, ◌-◌, ◌≤◌, ℕ, Option, Some, length, true};
 ghost use Rattle.std.specs.List.{AllByRecursion};
 ghost use Rattle.dmn_block.specs.declared.frame.BlockFrame.{BlockFrame};
 ghost use Rattle.dmn_block.specs.Shape.{first_of, number_of};
@@ -10,8 +10,8 @@ ghost use Rattle.dmn_quorums.specs.Duty.{base_of, is_in_window, types_of};
 ghost use Rattle.dmn_rows.specs.declared.profile.QuorumParams.{QuorumParams};
 ghost use Rattle.dmn_rows.specs.declared.start.StartRecord.{StartRecord};
 ghost use Rattle.dmn_rows.specs.Order.{TellsLeast};
-ghost use Rattle.dmn_branch.specs.Coinbases.{HasCoinbase};
-ghost use Rattle.dmn_branch.specs.Machine.{MachineState, broken_hash, hash_rules, history, state_at, top, with_block, without_tip};
+ghost use Rattle.dmn_branch.specs.Coinbases.{HasCoinbase, TellsRoot};
+ghost use Rattle.dmn_branch.specs.Machine.{MachineState, broken_hash, hash_rules, history, state_at, tip, top, with_block, without_tip};
 ghost use Rattle.dmn_branch.specs.Stands.{HoldsBase, IsHeld, IsKept, Keeping, low_kept};
 ghost use Rattle.dmn_branch.specs.Step.{Outcome, last_rules, profile_of};
 
@@ -40,4 +40,15 @@ pub fn taken_back_as_before()
 /// Each block of a branch has a coinbase: of the heights that have a state, the one before the first block's alone has none.
 pub fn blocks_have_coinbases()
     ensures { (m : MachineState) (height : ℕ) → m.start.first - 1 ≤ height → HasCoinbase m.start.first height (state_at m height) }
+{}
+
+/// The coinbase of each state's block tells the root of the state's list; at the height before the first block that is zero. So
+/// what proves the coinbases of a branch tells the roots of its lists.
+pub fn coinbases_tell_roots()
+    ensures { (m : MachineState) → AllByRecursion TellsRoot (history m) }
+{}
+
+/// The state at the height of the tip is the tip.
+pub fn tip_is_at_its_height()
+    ensures { (m : MachineState) → state_at m (tip m).height ≡ Some (tip m) }
 {}

@@ -9,6 +9,7 @@ mod commitments;
 mod compaction;
 mod confirm;
 mod fault;
+mod from_data;
 mod held;
 mod law;
 mod limits;
@@ -21,14 +22,17 @@ mod setting;
 mod spends;
 mod step;
 mod tip;
+mod to_data;
 mod transactions;
 
 pub use branch::Branch;
 pub use change::RowChange;
+pub use dmn_restore::DataFault;
 pub use fault::{DisconnectRefusal, PinFault, PrepareFault};
 pub use held::Prepared;
 pub use law::{
-    bases_are_held, blocks_have_coinbases, refused_by_the_least_number, taken_back_as_before,
+    bases_are_held, blocks_have_coinbases, coinbases_tell_roots, refused_by_the_least_number,
+    taken_back_as_before, tip_is_at_its_height,
 };
 pub use limits::MOST_EVENTS;
 pub use listing::Listing;

@@ -1,6 +1,6 @@
 //! The version before the first block.
 
-ghost use Rattle.std.specs.Prelude.{◌≡◌, [], OnOk, IfOk};
+ghost use Rattle.std.specs.Prelude.{◌≡◌, ◌-◌, [], None, OnOk, IfOk};
 ghost use Rattle.dmn_indexes.specs.Marks.{marks_of};
 ghost use Rattle.dmn_indexes.specs.Version as versions;
 ghost use Rattle.dmn_rows.specs.Defs.{KeepsBounds};
@@ -40,7 +40,8 @@ fn put_one(list: &mut Working, output: &StartOutput) -> Result<(), Memory>
 pub fn origin(alloc: Global, start: &StartRecord, indexes: &mut Indexes) -> Result<Held, Memory>
     requires bounds { KeepsBounds start.now }
     requires ascending { OutputsAscend start.now.outputs }
-    ensures list { IfOk result (λ held. kept_in indexes.new [] held ≡ first_kept start.now) }
+    ensures list { IfOk result (λ held. kept_in indexes.new (start.now.first - 1) held ≡ first_kept start.now) }
+    ensures coinbase { IfOk result (λ held. held.coinbase ≡ None) }
     ensures version { IfOk result (λ held. versions.IsWhole indexes.new held.version) }
     ensures marks { IfOk result (λ held. held.marks ≡ marks_of indexes.new) }
 {
@@ -53,10 +54,10 @@ pub fn origin(alloc: Global, start: &StartRecord, indexes: &mut Indexes) -> Resu
     let version = list.version();
     *indexes = list.into_indexes();
     Ok(Held {
-        height: start.first - 1,
         hash: start.hash,
         root: Hash256([0; 32]),
         version,
+        coinbase: None,
         marks: indexes.marks(),
     })
 }

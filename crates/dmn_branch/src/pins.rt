@@ -39,7 +39,7 @@ impl Pin {
 /// The pins that are live, in the order of their numbers. Contracts see the list.
 #[derive(Debug, Drop)]
 pub struct PinList {
-    items: Vec<Pin>,
+    pub(crate) items: Vec<Pin>,
 }
 
 impl Model for PinList {

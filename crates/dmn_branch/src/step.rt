@@ -11,19 +11,18 @@ ghost use Rattle.dmn_indexes.specs.Version.{Keeps, GrownBy};
 ghost use Rattle.dmn_indexes.specs.Version as versions;
 ghost use Rattle.dmn_indexes.specs.Working.{Leads, listing};
 ghost use Rattle.dmn_payloads.specs.declared.commitment.Commitment.{Commitment};
-ghost use Rattle.dmn_quorums.specs.Duty.{undone};
 ghost use Rattle.dmn_rows.specs.Listing.{OutputsAscend};
 ghost use Rattle.dmn_sml.specs.Defs.{leaf, root_of, simple};
 ghost use Rattle.dmn_sml.specs.Entry.{entry_of};
 ghost use Rattle.dmn_branch.specs.Fault.{Tells, TellsRule};
-ghost use Rattle.dmn_branch.specs.Parts.{Follows, IsMinedAt, IsTip, IsWorking, given_of, outcome_of};
-ghost use Rattle.dmn_branch.specs.Stands.{Kept, StandsAt, IsWhole, kept_of, kept_in};
+ghost use Rattle.dmn_branch.specs.Parts.{Follows, IsMinedAt, IsTip, IsWithin, IsWorking, given_of, outcome_of};
+ghost use Rattle.dmn_branch.specs.Stands.{Kept, StandsAt, IsWhole, kept_of, kept_at};
 ghost use Rattle.dmn_branch.specs.Step.{last_rules, step_from, most_events, most_rows};
 
 use crate::commitments::Commitments;
 use crate::confirm::confirm;
 use crate::fault::PrepareFault;
-use crate::held::{Held, Stepped};
+use crate::held::{HeightVersion, Stepped};
 use crate::limits::MOST_EVENTS;
 use crate::mark::{mark, payee};
 use crate::setting::Setting;
@@ -47,7 +46,7 @@ use std::mem;
 pub fn advance(
     alloc: Global,
     setting: &Setting<'_>,
-    last: &Held,
+    last: &HeightVersion,
     block: &BlockFrame,
     coinbase: &CbTx,
     indexes: &mut Indexes,
@@ -59,16 +58,16 @@ pub fn advance(
     requires next { coinbase.now.height ≡ last.now.height + 1 }
     requires setting { setting.now ≡ given_of setting.now.profile setting.now.formed coinbase.now.height block.now }
     requires version { versions.IsWhole indexes.old last.now.version }
-    requires whole { IsWhole (kept_in indexes.old mined.old last.now) }
-    requires settled { undone last.now.height mined.old ≡ mined.old }
-    ensures next { (state : State) → StandsAt (kept_in indexes.old mined.old last.now) state → IfOk result (λ stepped. Follows setting.now.profile setting.now.formed state block.now stepped.events (kept_in indexes.new mined.new stepped.next)) }
-    ensures refused { (state : State) → StandsAt (kept_in indexes.old mined.old last.now) state → IfErr result (Tells (step_from setting.now.profile setting.now.formed state block.now)) }
+    requires whole { IsWhole (kept_at indexes.old last.now) }
+    ensures next { (state : State) → StandsAt (kept_at indexes.old last.now) state → IfOk result (λ stepped. Follows setting.now.profile setting.now.formed state block.now stepped.events (kept_at indexes.new stepped.next) mined.old mined.new) }
+    ensures refused { (state : State) → StandsAt (kept_at indexes.old last.now) state → IfErr result (Tells (step_from setting.now.profile setting.now.formed state block.now)) }
     ensures version { IfOk result (λ stepped. versions.IsWhole indexes.new stepped.next.version) }
     ensures marks { IfOk result (λ stepped. stepped.next.marks ≡ marks_of indexes.new) }
-    ensures whole { IfOk result (λ stepped. IsWhole (kept_in indexes.new mined.new stepped.next)) }
+    ensures whole { IfOk result (λ stepped. IsWhole (kept_at indexes.new stepped.next)) }
     ensures height { IfOk result (λ stepped. stepped.next.height ≡ last.now.height + 1) }
     ensures kept { Keeps indexes.old indexes.new }
-    ensures mined { undone last.now.height mined.new ≡ mined.old }
+    ensures mined { OnOk result (IsMinedAt (last.now.height + 1) mined.old mined.new) }
+    ensures same_mined { OnErr result (mined.new ≡ mined.old) }
     ensures grown { IfOk result (λ stepped. GrownBy (232 * stepped.events) indexes.old indexes.new) }
     ensures same { OnErr result (SameNodes indexes.old indexes.new) }
 {
@@ -87,7 +86,7 @@ pub fn advance(
             Err(fault)
         }
         Ok(()) => Ok(Stepped {
-            next: Held {
+            next: HeightVersion {
                 height: coinbase.height,
                 hash: block.hash,
                 root: coinbase.rows,
@@ -105,7 +104,7 @@ pub fn advance(
 pub fn follow(
     alloc: Global,
     setting: &Setting<'_>,
-    last: &Held,
+    last: &HeightVersion,
     block: &BlockFrame,
     coinbase: &CbTx,
     list: &mut Working,
@@ -115,11 +114,10 @@ pub fn follow(
     requires setting { setting.now ≡ given_of setting.now.profile setting.now.formed coinbase.now.height block.now }
     requires hash { is_zero block.now.hash.0 ≡ false }
     requires before { is_zero last.now.hash.0 ≡ false }
-    requires root { last.now.root ≡ root_of (simple list.old.rows) }
     requires working { IsWorking coinbase.now.height list.old.rows }
-    ensures next { (tip : Kept) (state : State) → IsTip tip block.now coinbase.now list.old mined.old → tip.hash ≡ last.now.hash → StandsAt tip state → OnOk result (Follows setting.now.profile setting.now.formed state block.now list.new.events (kept_of coinbase.now.height block.now.hash coinbase.now.rows (listing list.new) mined.new)) }
-    ensures refused { (tip : Kept) (state : State) → IsTip tip block.now coinbase.now list.old mined.old → tip.hash ≡ last.now.hash → StandsAt tip state → IfErr result (Tells (step_from setting.now.profile setting.now.formed state block.now)) }
-    ensures whole { OnOk result (IsWhole (kept_of coinbase.now.height block.now.hash coinbase.now.rows (listing list.new) mined.new)) }
+    ensures next { (tip : Kept) (state : State) → IsTip tip last.now block.now coinbase.now list.old → StandsAt tip state → OnOk result (Follows setting.now.profile setting.now.formed state block.now list.new.events (kept_of coinbase.now.height block.now.hash coinbase.now.rows (listing list.new)) mined.old mined.new) }
+    ensures refused { (tip : Kept) (state : State) → IsTip tip last.now block.now coinbase.now list.old → StandsAt tip state → IfErr result (Tells (step_from setting.now.profile setting.now.formed state block.now)) }
+    ensures whole { OnOk result (IsWhole (kept_of coinbase.now.height block.now.hash coinbase.now.rows (listing list.new))) }
     ensures mined { OnOk result (IsMinedAt coinbase.now.height mined.old mined.new) }
     ensures same { OnErr result (mined.new ≡ mined.old) }
     ensures few { OnOk result (list.new.events ≤ most_events) }
@@ -151,9 +149,9 @@ fn refuse(broken: Option<Rule>) -> Result<(), PrepareFault>
 // The first of the rules 81 to 84 that is broken. Where no entry changed, the root is that of before.
 #[tactic(auto, unfolding(crate::specs::Step::last_rules))]
 fn last_rule(coinbase: &CbTx, before: &Hash256, list: &Working) -> Option<Rule>
-    requires { list.now.entries_changed ≡ false → before.now ≡ root_of (simple list.now.rows) }
-    ensures rule { (mined : List Commitment) → first_broken (unnumbered (last_rules (Some coinbase.now) (outcome_of list.now mined))) ≡ option_map by_block result }
+    ensures rule { (list.now.entries_changed ≡ false → before.now ≡ root_of (simple list.now.rows)) → (mined : List Commitment) → first_broken (unnumbered (last_rules (Some coinbase.now) (outcome_of list.now mined))) ≡ option_map by_block result }
     ensures ascending { IfNone result (OutputsAscend list.now.outputs) }
+    ensures within { IfNone result (IsWithin list.now) }
 {
     if list.events() > MOST_EVENTS {
         return Some(Rule::TooManyChanges);
@@ -174,11 +172,10 @@ fn last_rule(coinbase: &CbTx, before: &Hash256, list: &Working) -> Option<Rule>
     None
 }
 
-// The root of the list as it is. The entries are hashed only where one changed.
+// The root of the list as it is, by that of before. The entries are hashed only where one changed.
 fn root_after(before: &Hash256, list: &Working) -> Hash256
-    requires few { length list.now.rows ≤ most_rows }
-    requires before { list.now.entries_changed ≡ false → before.now ≡ root_of (simple list.now.rows) }
-    ensures { result ≡ root_of (simple list.now.rows) }
+    requires { length list.now.rows ≤ most_rows }
+    ensures { (list.now.entries_changed ≡ false → before.now ≡ root_of (simple list.now.rows)) → result ≡ root_of (simple list.now.rows) }
 {
     if list.entries_changed() {
         root_of_rows(list)

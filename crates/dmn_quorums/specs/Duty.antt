@@ -70,6 +70,10 @@ active_of mined params height = map (λ m. m.commitment) (active_at mined params
 abbrev pub all_active : List MinedAt → List (Option QuorumParams) → ℕ → List Commitment
 all_active mined quorums height = flat_map (λ params. active_of mined params height) (types_of quorums)
 
+-- the active quorums of all types, in the order of the types, each with the height at which it was mined
+abbrev pub all_active_at : List MinedAt → List (Option QuorumParams) → ℕ → List MinedAt
+all_active_at mined quorums height = flat_map (λ params. active_at mined params height) (types_of quorums)
+
 -- how many of the type aren't among the last ones
 abbrev pub older : List MinedAt → QuorumParams → ℕ → ℕ
 older mined params height = count_by (is_of params height) mined - params.active

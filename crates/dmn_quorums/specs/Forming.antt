@@ -41,6 +41,10 @@ seats params done base rows = if done then [] else members_of rows params.size (
 abbrev pub inside : QuorumParams → Bool → Hash256 → List MnRow → Formed
 inside params done base rows = record { params = params; in_window = true; done = done; base = base; members = seats params done base rows; digest = digest_of rows (seats params done base rows) }
 
+-- a block at the height has to have a commitment of the type
+abbrev pub is_due : Formed → Bool
+is_due f = f.in_window && not f.done
+
 -- ---- a commitment of a block
 
 -- a type is among these

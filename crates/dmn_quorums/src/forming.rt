@@ -69,6 +69,34 @@ impl Forming {
         }
     }
 
+    /// The numbers of the type.
+    pub fn params(&self) -> &QuorumParams
+        ensures { result.now ≡ self.now.params }
+    {
+        &self.params
+    }
+
+    /// Whether a block at the height has to have a commitment of the type.
+    pub fn is_due(&self) -> bool
+        ensures { result ≡ spec.is_due self.now }
+    {
+        self.in_window && !self.done
+    }
+
+    /// The hash of the base block; zero where no commitment may be mined.
+    pub fn base(&self) -> &Hash256
+        ensures { result.now ≡ self.now.base }
+    {
+        &self.base
+    }
+
+    /// What a verdict on the members' signature is on.
+    pub fn digest(&self) -> &Hash256
+        ensures { result.now ≡ self.now.digest }
+    {
+        &self.digest
+    }
+
     /// The members, in their order.
     pub fn members(&self) -> &[Hash256]
         ensures { result.now ≡ self.now.members }

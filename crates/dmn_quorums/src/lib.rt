@@ -22,5 +22,5 @@ pub use forming::{Forming, case_of, members_in, missing};
 pub use judging::judge_commitment;
 pub use law::{digest_seen, judged_by_the_least_number, members_seen};
 pub use membership::{Candidates, members};
-pub use mined::Mined;
+pub use mined::{Mined, active_among, all_active_among};
 pub use scores::{ScoreNumber, modifier, score};

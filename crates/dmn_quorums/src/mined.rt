@@ -14,7 +14,7 @@ use std::marker::Model;
 /// The commitments that were mined and aren't null, in the order in which they were added. Contracts see the list.
 #[derive(Debug, Drop)]
 pub struct Mined {
-    items: Vec<MinedAt>,
+    pub items: Vec<MinedAt>,
 }
 
 impl Model for Mined {
@@ -64,6 +64,13 @@ impl Mined {
         ensures { self.new ≡ spec.undone height self.old }
     {
         self.items.retain(|m| m.height <= height);
+    }
+
+    /// All of them, in the order in which they were added.
+    pub fn as_slice(&self) -> &[MinedAt]
+        ensures { result.now ≡ self.now }
+    {
+        self.items.as_slice()
     }
 
     /// The one at a place, counted from 0 in the order in which they were added, with its height.
@@ -148,15 +155,67 @@ fn older(items: &[MinedAt], params: &QuorumParams, height: u32) -> usize
 }
 
 // Adds a copy behind the others.
-fn put_copy(
-    alloc: Global,
-    list: &mut Vec<Commitment>,
-    commitment: &Commitment,
-) -> Result<(), Memory>
-    ensures { OnOk result (list.new.items ≡ list.old.items ++ commitment.now ∷ []) }
+fn put_copy(alloc: Global, list: &mut Vec<MinedAt>, m: &MinedAt) -> Result<(), Memory>
+    ensures { OnOk result (list.new.items ≡ list.old.items ++ m.now ∷ []) }
 {
-    let copy = commitment.copy(alloc)?;
+    let commitment = m.commitment.copy(alloc)?;
+    let copy = MinedAt {
+        height: m.height,
+        commitment,
+    };
     list.push(copy).map_err(|_| Memory)
+}
+
+/// The active quorums of a type at a height, the oldest first, each with the height at which it was mined: the last `active` ones
+/// of the type that were mined at this height or below.
+pub fn active_among(
+    alloc: Global,
+    items: &[MinedAt],
+    params: &QuorumParams,
+    height: u32,
+) -> Result<Vec<MinedAt>, Memory>
+    ensures { IfOk result (λ list. list.items ≡ spec.active_at items.now params.now height) }
+{
+    let mut left = older(items, params, height);
+    let mut active = Vec::new(alloc);
+    for m in items {
+        if is_of(params, height, m) {
+            if left > 0 {
+                left -= 1;
+            } else {
+                put_copy(alloc, &mut active, m)?;
+            }
+        }
+    }
+    Ok(active)
+}
+
+// Adds all behind the others.
+fn put_all_mined(list: &mut Vec<MinedAt>, more: Vec<MinedAt>) -> Result<(), Memory>
+    ensures { OnOk result (list.new.items ≡ list.old.items ++ more.items) }
+{
+    for m in more {
+        list.push(m).map_err(|_| Memory)?;
+    }
+    Ok(())
+}
+
+/// The active quorums of all types at a height, in the order of the types, each with the height at which it was mined.
+pub fn all_active_among(
+    alloc: Global,
+    items: &[MinedAt],
+    quorums: &[Option<QuorumParams>],
+    height: u32,
+) -> Result<Vec<MinedAt>, Memory>
+    ensures { IfOk result (λ list. list.items ≡ spec.all_active_at items.now quorums.now height) }
+{
+    let mut all = Vec::new(alloc);
+    for quorum in quorums {
+        if let Some(params) = quorum {
+            put_all_mined(&mut all, active_among(alloc, items, params, height)?)?;
+        }
+    }
+    Ok(all)
 }
 
 fn active_in(
@@ -167,16 +226,9 @@ fn active_in(
 ) -> Result<Vec<Commitment>, Memory>
     ensures { IfOk result (λ list. list.items ≡ spec.active_of items.now params.now height) }
 {
-    let mut left = older(items, params, height);
     let mut active = Vec::new(alloc);
-    for m in items {
-        if is_of(params, height, m) {
-            if left > 0 {
-                left -= 1;
-            } else {
-                put_copy(alloc, &mut active, &m.commitment)?;
-            }
-        }
+    for m in active_among(alloc, items, params, height)? {
+        active.push(m.commitment).map_err(|_| Memory)?;
     }
     Ok(active)
 }

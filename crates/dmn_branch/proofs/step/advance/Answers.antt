@@ -5,19 +5,11 @@ use Rattle.dmn_indexes.specs.Version.{Keeps, GrownBy}
 use Rattle.dmn_indexes.specs.Working.{Worked, Leads, worked, listing}
 use Rattle.dmn_indexes.proofs.Cutting.{whole_below, cut_back}
 use Rattle.dmn_indexes.proofs.Whole.{stays_then, grown_more}
-use Rattle.dmn_quorums.specs.Duty.{undone}
-use Rattle.dmn_sml.specs.Defs.{root_of, simple}
-use Rattle.dmn_branch.specs.Parts.{Follows, IsTip}
-use Rattle.dmn_branch.specs.Stands.{IsWhole, kept_in}
+use Rattle.dmn_branch.specs.Parts.{Follows, IsMinedAt, IsTip}
+use Rattle.dmn_branch.specs.Stands.{IsWhole, Kept, kept_at}
 use Rattle.dmn_branch.proofs.Holding.{kept_listing}
-use Rattle.dmn_branch.proofs.Mining.{undone_added, undone_next}
 use Rattle.dmn_branch.proofs.Stepping.{shape_says, hash_kept, stays_small, working_from}
 use Rattle.dmn_branch.proofs.step.advance.Goals as goal
-
-pub follow-followed-requires-clause-root : goal.follow-followed-requires-clause-root
-follow-followed-requires-clause-root c =
-    let start : c.new-list.result ≡ worked c.args.indexes.now c.args.last.now.version 0 false = c.new-list.ensures ∙ ap (λ (i : Indexes). worked i c.args.last.now.version 0 false) c.replace.ensures.value in
-    c.requires.whole.root ∙ ap (λ (w : Worked). root_of (simple w.rows)) (sym start)
 
 pub follow-followed-requires-clause-hash : goal.follow-followed-requires-clause-hash
 follow-followed-requires-clause-hash c = hash_kept c.args.block.now c.args.last.now.hash c.args.last.now.height c.requires.shape
@@ -26,7 +18,7 @@ pub follow-followed-requires-clause-working : goal.follow-followed-requires-clau
 follow-followed-requires-clause-working c =
     let last = c.args.last.now in
     let start : c.new-list.result ≡ worked c.args.indexes.now last.version 0 false = c.new-list.ensures ∙ ap (λ (i : Indexes). worked i last.version 0 false) c.replace.ensures.value in
-    working_from (kept_in c.args.indexes.now c.args.mined.now last) c.args.coinbase.now.height (listing c.new-list.result) c.requires.whole c.requires.next (ap listing start)
+    working_from (kept_at c.args.indexes.now last) c.args.coinbase.now.height (listing c.new-list.result) c.requires.whole c.requires.next (ap listing start)
 
 pub returns-in-Err-clause-refused : goal.returns-in-Err-clause-refused
 returns-in-Err-clause-refused c = λ state at.
@@ -34,11 +26,11 @@ returns-in-Err-clause-refused c = λ state at.
     let old = c.args.indexes.now in
     let last = c.args.last.now in
     let coinbase = c.args.coinbase.now in
-    let tip = kept_in old c.args.mined.now last in
+    let tip = kept_at old last in
     let start : c.new-list.result ≡ worked old last.version 0 false = c.new-list.ensures ∙ ap (λ (i : Indexes). worked i last.version 0 false) c.replace.ensures.value in
     let says = shape_says block last.hash last.height coinbase c.requires.shape c.requires.payload in
-    let is : IsTip tip block coinbase c.new-list.result c.args.mined.now = record { shape = c.requires.shape; payload = says.0; next = c.requires.next; same = ap listing start; none = ap (λ (w : Worked). w.events) start; mined = c.requires.settled } in
-    c.in-Err.ensures.refused tip state is refl at
+    let is : IsTip tip last block coinbase c.new-list.result = record { hash = refl; root = refl; shape = c.requires.shape; payload = says.0; next = c.requires.next; same = ap listing start; none = ap (λ (w : Worked). w.events) start } in
+    c.in-Err.ensures.refused tip state is at
 
 pub returns-in-Err-clause-kept : goal.returns-in-Err-clause-kept
 returns-in-Err-clause-kept c = λ v whole.
@@ -48,9 +40,6 @@ returns-in-Err-clause-kept c = λ v whole.
     let below = subst (λ (m : List ℕ). IsBelow m v) (sym c.marks-marks.ensures) (whole_below c.args.indexes.now v whole) in
     stays_then one (c.cut.ensures.kept v one.whole below)
 
-pub returns-in-Err-clause-mined : goal.returns-in-Err-clause-mined
-returns-in-Err-clause-mined c = ap (undone c.args.last.now.height) c.in-Err.ensures.same ∙ c.requires.settled
-
 pub returns-in-Ok-clause-next : goal.returns-in-Ok-clause-next
 returns-in-Ok-clause-next c = λ state at.
     let block = c.args.block.now in
@@ -58,28 +47,24 @@ returns-in-Ok-clause-next c = λ state at.
     let last = c.args.last.now in
     let coinbase = c.args.coinbase.now in
     let given = c.args.setting.now in
-    let tip = kept_in old c.args.mined.now last in
+    let tip = kept_at old last in
     let start : c.new-list.result ≡ worked old last.version 0 false = c.new-list.ensures ∙ ap (λ (i : Indexes). worked i last.version 0 false) c.replace.ensures.value in
     let says = shape_says block last.hash last.height coinbase c.requires.shape c.requires.payload in
-    let is : IsTip tip block coinbase c.new-list.result c.args.mined.now = record { shape = c.requires.shape; payload = says.0; next = c.requires.next; same = ap listing start; none = ap (λ (w : Worked). w.events) start; mined = c.requires.settled } in
-    let settled = undone_next last.height coinbase.height c.args.mined.now c.follow-followed.new.mined (omega (arith, c.requires.next)) c.in-Ok.ensures.mined c.requires.settled in
-    let made = kept_listing c.into_indexes.result c.follow-followed.new.mined (record { height = coinbase.height; hash = block.hash; root = coinbase.rows; version = c.version-version.result; marks = c.marks.result }) c.follow-followed.new.list c.into_indexes.ensures c.version-version.ensures.version c.version-version.ensures.reads settled in
-    let next = kept_in c.into_indexes.result c.follow-followed.new.mined (record { height = coinbase.height; hash = block.hash; root = coinbase.rows; version = c.version-version.result; marks = c.marks.result }) in
-    subst (λ (n : ℕ). Follows given.profile given.formed state block n next) (sym c.events-events.ensures) (subst (Follows given.profile given.formed state block c.follow-followed.new.list.events) (sym made) (c.in-Ok.ensures.next tip state is refl at))
+    let is : IsTip tip last block coinbase c.new-list.result = record { hash = refl; root = refl; shape = c.requires.shape; payload = says.0; next = c.requires.next; same = ap listing start; none = ap (λ (w : Worked). w.events) start } in
+    let made = kept_listing c.into_indexes.result (record { height = coinbase.height; hash = block.hash; root = coinbase.rows; version = c.version-version.result; marks = c.marks.result }) c.follow-followed.new.list c.into_indexes.ensures c.version-version.ensures.version c.version-version.ensures.reads in
+    let next = kept_at c.into_indexes.result (record { height = coinbase.height; hash = block.hash; root = coinbase.rows; version = c.version-version.result; marks = c.marks.result }) in
+    subst (λ (n : ℕ). Follows given.profile given.formed state block n next c.args.mined.now c.follow-followed.new.mined) (sym c.events-events.ensures) (subst (λ (k : Kept). Follows given.profile given.formed state block c.follow-followed.new.list.events k c.args.mined.now c.follow-followed.new.mined) (sym made) (c.in-Ok.ensures.next tip state is at))
 
 pub returns-in-Ok-clause-whole : goal.returns-in-Ok-clause-whole
 returns-in-Ok-clause-whole c =
     let block = c.args.block.now in
     let last = c.args.last.now in
     let coinbase = c.args.coinbase.now in
-    let settled = undone_next last.height coinbase.height c.args.mined.now c.follow-followed.new.mined (omega (arith, c.requires.next)) c.in-Ok.ensures.mined c.requires.settled in
-    let made = kept_listing c.into_indexes.result c.follow-followed.new.mined (record { height = coinbase.height; hash = block.hash; root = coinbase.rows; version = c.version-version.result; marks = c.marks.result }) c.follow-followed.new.list c.into_indexes.ensures c.version-version.ensures.version c.version-version.ensures.reads settled in
+    let made = kept_listing c.into_indexes.result (record { height = coinbase.height; hash = block.hash; root = coinbase.rows; version = c.version-version.result; marks = c.marks.result }) c.follow-followed.new.list c.into_indexes.ensures c.version-version.ensures.version c.version-version.ensures.reads in
     subst IsWhole (sym made) c.in-Ok.ensures.whole
 
 pub returns-in-Ok-clause-mined : goal.returns-in-Ok-clause-mined
-returns-in-Ok-clause-mined c =
-    let last = c.args.last.now in
-    undone_added last.height c.args.coinbase.now.height c.args.mined.now c.follow-followed.new.mined (omega (arith, c.requires.next)) c.in-Ok.ensures.mined c.requires.settled
+returns-in-Ok-clause-mined c = subst (λ (n : ℕ). IsMinedAt n c.args.mined.now c.follow-followed.new.mined) c.requires.next c.in-Ok.ensures.mined
 
 pub returns-in-Ok-clause-kept : goal.returns-in-Ok-clause-kept
 returns-in-Ok-clause-kept c =

@@ -1,4 +1,4 @@
-use Rattle.std.proofs.Common.{◌∙◌, ap}
+use Rattle.std.proofs.Common.{◌∙◌, ap, refl}
 use Rattle.dmn_indexes.specs.Version.{rows_in}
 use Rattle.dmn_branch.specs.Stands.{Keeping, kept_in}
 use Rattle.dmn_branch.proofs.Asking.{first_hashes, hashes_few, if_ok, tells_payees}
@@ -8,7 +8,7 @@ pub returns-clause-payees : goal.returns-clause-payees
 returns-clause-payees c = λ m stands.
     let held = c.held_at.result.now in
     if_ok c.payees_of.result (λ hashes is.
-    tells_payees c.args.height c.args.count (kept_in c.args.self.now.indexes c.args.self.now.mined held) _ hashes.items c.held_at.ensures.height
+    tells_payees c.args.height c.args.count (kept_in c.args.self.now.indexes c.args.height held) _ hashes.items refl
     (is ∙ ap (λ (b : Keeping). first_hashes c.args.count (rows_in b.indexes held.version)) c.self.view_is)
     (c.held_at.ensures.stands m stands)) c.payees_of.ensures
 

@@ -12,7 +12,7 @@ use Rattle.dmn_branch.proofs.Pinning.{fresh_number, next_number, numbered_with, 
 use Rattle.dmn_branch.proofs.branch.Branch.pin.Goals as goal
 
 abbrev made : goal.After-self-1 → Pin
-made c = record { number = c.in-Some.number; height = c.args.height; root = c.held_at.result.now.version.rows; mark = slice_index c.held_at.result.now.marks 0 }
+made c = record { number = c.in-Some.number; height = c.args.height; root = c.held_at-held.result.now.version.rows; mark = slice_index c.held_at-held.result.now.marks 0 }
 
 added : (c : goal.After-self-1) → c.add.new.self ≡ c.self.inside.pins ++ made c ∷ []
 added c = ok_from c.add.result (sym c.is_err.ensures.value ∙ c.if-is_err.false) c.add.ensures.ok
@@ -23,9 +23,9 @@ free c = sym c.free_number.ensures ∙ c.in-Some.is
 pub invariant_of-self-2 : goal.invariant_of-self-2
 invariant_of-self-2 c =
     let ix = c.self.inside.indexes in
-    let whole = subst (λ (b : Keeping). versions.IsWhole b.indexes c.held_at.result.now.version) (sym c.self.view_is) c.held_at.ensures.whole in
-    let one : IsPinned ix (made c) = record { sound = whole.sound; below = c.held_at.ensures.below.rows; hashes = whole.reads } in
-    (c.self.invariant.0, c.self.invariant.1, subst (All (IsPinned ix)) (sym (added c)) (All-push (IsPinned ix) c.self.inside.pins (made c) c.self.invariant.2 one), c.self.invariant.3)
+    let whole = subst (λ (b : Keeping). versions.IsWhole b.indexes c.held_at-held.result.now.version) (sym c.self.view_is) c.held_at-held.ensures.whole in
+    let one : IsPinned ix (made c) = record { sound = whole.sound; below = c.held_at-held.ensures.below.rows; hashes = whole.reads } in
+    (c.self.invariant.0, c.self.invariant.1, subst (All (IsPinned ix)) (sym (added c)) (All-push (IsPinned ix) c.self.inside.pins (made c) c.self.invariant.2 one))
 
 pub returns-clause-fresh : goal.returns-clause-fresh
 returns-clause-fresh c = λ m stands.
@@ -34,12 +34,11 @@ returns-clause-fresh c = λ m stands.
 pub returns-clause-pinned : goal.returns-clause-pinned
 returns-clause-pinned c = λ m stands.
     let ix = c.self.inside.indexes in
-    let mined = c.self.inside.mined in
     let pins = c.self.inside.pins in
-    let held = c.held_at.result.now in
+    let held = c.held_at-held.result.now in
     let before = subst (λ (b : Keeping). StandsFor b m) (sym c.self.view_is) stands in
-    let at = subst (λ (b : Keeping). StandsIn (kept_in b.indexes b.mined held) (machine.state_at m c.args.height)) (sym c.self.view_is) (c.held_at.ensures.stands m stands) in
-    let one : pinned_in ix (made c) ≡ machine.pin_at m c.in-Some.number c.args.height = pin_made ix m (kept_in ix mined held) (made c) c.held_at.ensures.height refl at in
+    let at = subst (λ (b : Keeping). StandsIn (kept_in b.indexes c.args.height held) (machine.state_at m c.args.height)) (sym c.self.view_is) (c.held_at-held.ensures.stands m stands) in
+    let one : pinned_in ix (made c) ≡ machine.pin_at m c.in-Some.number c.args.height = pin_made ix m (kept_in ix c.args.height held) (made c) refl refl at in
     let is : pins_in ix c.add.new.self c.checked_add-self-inside.result ≡ with_pin m.pins (machine.pin_at m c.in-Some.number c.args.height) =
     ap (λ (l : List Pin). pins_in ix l c.checked_add-self-inside.result) (added c)
     ∙ ap (λ (n : Option _). pins_in ix (pins ++ made c ∷ []) n) (next_number c.checked_add-self-inside.result c.in-Some.number c.checked_add-self-inside.ensures)

@@ -1,11 +1,12 @@
-use Rattle.std.proofs.Common.{◌*◌, sym, subst}
+use Rattle.std.proofs.Common.{◌*◌, subst}
 use Rattle.std.proofs.lemmas.Result.{err_from_is_err_and}
 use Rattle.dmn_indexes.specs.declared.indexes.Indexes.{Indexes}
 use Rattle.dmn_indexes.specs.Marks.{SameNodes}
 use Rattle.dmn_indexes.specs.Version.{GrownBy}
 use Rattle.dmn_branch.proofs.Asking.{if_ok}
 use Rattle.dmn_branch.proofs.Connecting.{tells_known}
-use Rattle.dmn_branch.proofs.Holding.{alike_of, alike_then, if_err}
+use Rattle.dmn_branch.proofs.Holding.{if_err}
+use Rattle.dmn_branch.proofs.Leaving.{alike_of, alike_then}
 use Rattle.dmn_branch.proofs.Moving.{more_same, more_then}
 use Rattle.dmn_branch.proofs.branch.Branch.prepare.Goals as goal
 

@@ -21,7 +21,7 @@ returns-then-is_none-clause-live c = λ m stands.
 pub invariant_of-self : goal.invariant_of-self
 invariant_of-self c =
     let ix = c.self.inside.indexes in
-    (c.self.invariant.0, c.self.invariant.1, subst (All (IsPinned ix)) (sym c.drop.ensures) (left_of (IsPinned ix) (λ (p : Pin). not (p.number == c.args.number)) c.self.inside.pins c.self.invariant.2), c.self.invariant.3)
+    (c.self.invariant.0, c.self.invariant.1, subst (All (IsPinned ix)) (sym c.drop.ensures) (left_of (IsPinned ix) (λ (p : Pin). not (p.number == c.args.number)) c.self.inside.pins c.self.invariant.2))
 
 pub returns-clause-live : goal.returns-clause-live
 returns-clause-live c = λ m stands.

@@ -1,0 +1,10 @@
+pub mod Keyed
+pub mod Free
+pub mod Steps
+pub mod Going
+pub mod Ordered
+pub mod Rising
+pub mod Lowest
+pub mod Walked
+pub mod Forming
+pub mod Fitting

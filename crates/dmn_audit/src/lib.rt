@@ -5,4 +5,4 @@ mod sending;
 mod text;
 
 pub use sending::audit;
-pub use text::audit_text;
+pub use text::{add_line, add_number, audit_text};

@@ -8,8 +8,8 @@ use dmn_hex::hash_text;
 use dmn_registry::Audit;
 use std::alloc::Global;
 
-// Adds a line: a name, a space, and a value.
-fn add_line(text: &mut Bytes, name: &[u8], value: &[u8]) -> Result<(), Memory>
+/// Adds a line: a name, a space, and a value.
+pub fn add_line(text: &mut Bytes, name: &[u8], value: &[u8]) -> Result<(), Memory>
     ensures { OnOk result (text.new ≡ text.old ++ line name.now value.now) }
 {
     text.extend(name)?;
@@ -18,8 +18,8 @@ fn add_line(text: &mut Bytes, name: &[u8], value: &[u8]) -> Result<(), Memory>
     text.extend(b"\n")
 }
 
-// Adds a line whose value is a number, in decimal digits.
-fn add_number(alloc: Global, text: &mut Bytes, name: &[u8], number: u64) -> Result<(), Memory>
+/// Adds a line whose value is a number, in decimal digits.
+pub fn add_number(alloc: Global, text: &mut Bytes, name: &[u8], number: u64) -> Result<(), Memory>
     ensures { OnOk result (text.new ≡ text.old ++ line name.now (decimal number)) }
 {
     let digits = number.to_string(alloc)?;

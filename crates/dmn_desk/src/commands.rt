@@ -6,6 +6,7 @@ ghost use Rattle.dmn_outside.specs.Counts.{Rose};
 ghost use Rattle.dmn_outside.specs.Crashes.{LeavesOnly};
 ghost use Rattle.dmn_registry.specs.Machine.{Machine, connecting, disconnecting};
 ghost use Rattle.dmn_registry.specs.Own.{OwnWith, StandsOn};
+ghost use Rattle.dmn_registry.specs.Snapshots.{HasRoomForSnapshot};
 ghost use Rattle.dmn_desk.specs.Asked.{Answers, AnswersSurely, HasRoom, IsIdle};
 ghost use Rattle.dmn_desk.specs.declared.request.Request.TheVariants as requests;
 ghost use Rattle.dmn_desk.specs.Texts.{IsBounded};
@@ -42,7 +43,7 @@ pub fn connect<D: Disk>(
     ensures time { D.time disk.old ≤ D.time disk.new }
     ensures later { (D.disk disk.old).faults ≤ (D.disk disk.new).faults }
     ensures fault { IsErr result → Rose (D.disk disk.old).faults (D.disk disk.new).faults }
-    ensures sure { D.tells_room ≡ true → HasRoom (Some (connecting body.now)) registry.old.journal.end (D.disk disk.old).room → AnswersSurely result (D.disk disk.old) (D.disk disk.new) }
+    ensures sure { D.tells_room ≡ true → HasRoom (Some (connecting body.now)) registry.old.journal.end (D.disk disk.old).room → HasRoomForSnapshot registry.old (D.disk disk.old).room → AnswersSurely result (D.disk disk.old) (D.disk disk.new) }
 {
     match registry.connect(alloc, disk, block, body) {
         Ok(()) => {

@@ -7,6 +7,7 @@ ghost use Rattle.dmn_outside.specs.Counts.{Rose};
 ghost use Rattle.dmn_outside.specs.Crashes.{LeavesOnly};
 ghost use Rattle.dmn_registry.specs.Machine.{Machine, state_of};
 ghost use Rattle.dmn_registry.specs.Own.{StandsOn};
+ghost use Rattle.dmn_registry.specs.Snapshots.{HasRoomForSnapshot};
 ghost use Rattle.dmn_desk.specs.Ask.{ask, tip_of};
 ghost use Rattle.dmn_desk.specs.Asked.{Answers, AnswersSurely, HasRoom, IsIdle, MayHold, TellsOrLacks, entry_by};
 ghost use Rattle.dmn_desk.specs.Kept.{IsTrueTo, StayChanges};
@@ -97,10 +98,11 @@ impl Desk {
         ensures room { D.room disk.new ≡ D.room disk.old }
         ensures time { D.time disk.old ≤ D.time disk.new }
 
-        // DiskFault comes only where the count of disk faults rose, and not over a disk that tells its room, where the record fits.
+        // DiskFault comes only where the count of disk faults rose, and not over a disk that tells its room, where the record and
+        // a snapshot fit.
         ensures later { (D.disk disk.old).faults ≤ (D.disk disk.new).faults }
         ensures fault { IsErr result → Rose (D.disk disk.old).faults (D.disk disk.new).faults }
-        ensures sure { D.tells_room ≡ true → HasRoom (entry_by request.now) registry.old.journal.end (D.disk disk.old).room → AnswersSurely result (D.disk disk.old) (D.disk disk.new) }
+        ensures sure { D.tells_room ≡ true → HasRoom (entry_by request.now) registry.old.journal.end (D.disk disk.old).room → HasRoomForSnapshot registry.old (D.disk disk.old).room → AnswersSurely result (D.disk disk.old) (D.disk disk.new) }
     {
         match request {
             Request::Connect { block, body } => {

@@ -13,11 +13,15 @@ use Rattle.dmn_journal.proofs.Creating.{blank_image}
 use Rattle.dmn_journal.proofs.Texts.{journals_have_commands, made_is_a_journal}
 use Rattle.dmn_journal.specs.Journal.{HasCommands, header_text}
 use Rattle.dmn_rows.specs.Defs.{IsStartText, start_text}
+use Rattle.dmn_slots.specs.Slots.{AreKept, Slots, slots_in}
+use Rattle.dmn_snapshot.specs.Slot.{slot_in}
+use Rattle.std.specs.Prelude.{None}
 use Rattle.dmn_rows.specs.Start.{start_record}
 use Rattle.dmn_rows.specs.declared.start.StartRecord.{StartRecord}
 use Rattle.dmn_status.specs.declared.status.Status.{Status}
 use Rattle.dmn_status.specs.declared.status.Status.TheVariants as statuses
 use Rattle.dmn_init.specs.declared.input.TheConstants.{MOST_READ}
+use Rattle.dmn_registry.specs.Faithful.{IsFaithful, longest_tail}
 use Rattle.dmn_registry.specs.Machine.{begun}
 use Rattle.dmn_registry.specs.Own.{IsOwn}
 use Rattle.dmn_init.proofs.Lengths.{start_long}
@@ -29,22 +33,33 @@ made_commands : (text : List ℕ) (start : StartRecord) (file : List ℕ) → te
 made_commands text start file same is =
     subst (HasCommands (header_text start) []) (sym (is ∙ ap (λ (l : List ℕ). 1 ∷ behind_gate l) same ∙ made_is_a_journal start)) (journals_have_commands start [] tt)
 
-made_own : (text : List ℕ) (start : StartRecord) (image : Three (List ℕ)) → IsStartText text start → image.zeroth ≡ 1 ∷ behind_gate text → IsOwn (begun start) image
-made_own text start image is made = record { file = record { start = is.0; replayed = record { replay = refl }; journal = made_commands text start image.zeroth is.1 made } }
+-- empty files have no slot
+no_slots : (a b : List ℕ) → a ≡ [] → b ≡ [] → (λ (s : Slots). s) (record { first = slot_in a; second = slot_in b }) ≡ record { first = None; second = None }
+unfolding slot_in
+no_slots a b first second = λ i. record { first = slot_in (first i); second = slot_in (second i) }
+
+none_kept : (start : StartRecord) (image : Three (List ℕ)) → image.first ≡ [] → image.second ≡ [] → AreKept (IsFaithful (begun start)) 0 (longest_tail (begun start)) (slots_in image)
+none_kept start image first second = subst (AreKept (IsFaithful (begun start)) 0 (longest_tail (begun start))) (sym (no_slots image.first image.second first second)) (record { first = tt; second = tt; ordered = tt; tail_is = omega arith })
+
+made_own : (text : List ℕ) (start : StartRecord) (image : Three (List ℕ)) → IsStartText text start → image.zeroth ≡ 1 ∷ behind_gate text → image.first ≡ [] → image.second ≡ [] → IsOwn (begun start) image
+made_own text start image is made first second = record {
+  file = record { start = is.0; replayed = record { replay = refl }; journal = made_commands text start image.zeroth is.1 made };
+  slots = none_kept start image first second;
+}
 
 -- what a crash leaves while the header is written
 pub made_image : (text : List ℕ) (start : StartRecord) (image : Three (List ℕ)) → IsStartText text start → journals.IsBlankOrMade (behind_gate text) image → IsBlankOrMade true text image
 made_image text start image is (inl blank) = inl blank
-made_image text start image is (inr made) = inr (start, λ told. is, made_own text start image is made.0)
+made_image text start image is (inr made) = inr (start, λ told. is, made_own text start image is made.0 made.1 made.2)
 
 pub made_rests : (text : List ℕ) (start : StartRecord) (told : Told) → IsStartText text start → HoldsText (1 ∷ behind_gate text) told → IsMade text told
 made_rests text start nothing is holds = (start, is, tt)
-made_rests text start (contents c) is holds = (start, is, made_own text start c is holds.0)
+made_rests text start (contents c) is holds = (start, is, made_own text start c is holds.0 holds.1 holds.2)
 made_rests text start (whole w) is holds = (
   start,
   is,
   (
-    made_own text start _ is (ap (λ (f : File). f.reads) holds.0),
+    made_own text start _ is (ap (λ (f : File). f.reads) holds.0) (ap (λ (f : File). f.reads) holds.1) (ap (λ (f : File). f.reads) holds.2),
     record { zeroth = subst (λ (f : File). f ≡ Rattle.dmn_outside.specs.Changes.file_synced f) (sym holds.0) refl; first = subst (λ (f : File). f ≡ Rattle.dmn_outside.specs.Changes.file_synced f) (sym holds.1) refl; second = subst (λ (f : File). f ≡ Rattle.dmn_outside.specs.Changes.file_synced f) (sym holds.2) refl },
   ),
 )

@@ -4,4 +4,4 @@
 mod input;
 mod making;
 
-pub use making::init;
+pub use making::{init, is_blank, make};

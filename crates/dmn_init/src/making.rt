@@ -20,8 +20,8 @@ use dmn_rows::{StartFault, read_start};
 use dmn_status::Status;
 use std::alloc::Global;
 
-// Whether file 0 is blank, so that a registry may be made.
-fn is_blank<D: Disk>(disk: &mut D) -> Result<bool, Failed>
+/// Whether file 0 is blank, so that a registry may be made.
+pub fn is_blank<D: Disk>(disk: &mut D) -> Result<bool, Failed>
     ensures blank { IfOk result (λ blank. IfReads (D.disk disk.old).told (λ all. Blanks blank all.zeroth)) }
     ensures disk { OnlyReads (D.disk disk.old) (D.disk disk.new) }
     ensures line { D.line disk.new ≡ D.line disk.old }
@@ -35,8 +35,8 @@ fn is_blank<D: Disk>(disk: &mut D) -> Result<bool, Failed>
     Ok(n < 2 || front[0] != 1)
 }
 
-// Makes the journal of the start record whose text this is.
-fn make<D: Disk>(alloc: Global, disk: &mut D, text: &[u8]) -> Status
+/// Makes the journal of the start record whose text this is.
+pub fn make<D: Disk>(alloc: Global, disk: &mut D, text: &[u8]) -> Status
     requires { length text.now ≤ MOST_READ }
     ensures makes { Makes result text.now (D.disk disk.new).told }
     ensures status { OfMaking result }

@@ -1,6 +1,6 @@
 -- Pins stand apart: the rules of blocks and the journal's limit don't look at them, and an image has none.
-use Rattle.std.proofs.Common.{◌≡◌, ℕ, List, [], ◌∷◌, ◌++◌, refl, ap, ◌∙◌, Bool, true, false, nat_lt, if◌then◌else◌}
-use Rattle.std.specs.Prelude.{Option, None, Some, Result, Ok, Err, ◌-◌, ◌==◌, not, length, nat_le}
+use Rattle.std.proofs.Common.{arith, ◌≡◌, ◌≤◌, ℕ, List, [], ◌∷◌, ◌++◌, refl, ap, ◌∙◌, Bool, true, false, nat_lt, if◌then◌else◌}
+use Rattle.std.specs.Prelude.{Result, Ok, Err, ◌-◌, ◌==◌, not, length, nat_le}
 use Rattle.std.specs.Str.{bytes_eq}
 use Rattle.dmn_block.specs.declared.frame.BlockFrame.{BlockFrame}
 use Rattle.dmn_block.specs.declared.refusal.Refusal.{Refusal}
@@ -15,8 +15,12 @@ use Rattle.dmn_journal.specs.Reading.{Found, closed, departs, found}
 use Rattle.dmn_outside.specs.Crashes.{Rests}
 use Rattle.dmn_outside.specs.Disk.{Three, Told, contents, nothing, whole}
 use Rattle.dmn_registry.specs.Departs.{stop_at, stop_by}
-use Rattle.dmn_registry.specs.Machine.{Accepts, Denial, Machine, Reaches, Verdict, answered, at_rest, by_answer, by_command, command_of, denied, formless, full, journal_max, state_of, taken, verdict, with_entry, with_pins}
+use Rattle.dmn_registry.specs.Machine.{Accepts, Denial, Machine, Verdict, answered, at_rest, by_answer, by_command, command_of, denied, formless, full, journal_max, state_of, taken, verdict, with_entry, with_pins}
+use Rattle.dmn_registry.specs.Faithful.{IsFaithful, longest_tail}
 use Rattle.dmn_registry.specs.Own.{IsOwn}
+use Rattle.dmn_slots.specs.Slots.{AreKept, Slots, slots_in}
+use Rattle.dmn_slots.proofs.Keeping.{kept_more}
+use Rattle.dmn_snapshot.specs.declared.slot.Stored.{Stored}
 
 -- ---- the rules of blocks
 
@@ -93,9 +97,24 @@ stop_apart m pins at (departs place) = refl
 
 -- ---- images
 
+-- a slot says nothing of pins
+faithful_apart : (m : Machine) (pins : Pins) (stored : Stored) → IsFaithful m stored → IsFaithful (with_pins m pins) stored
+faithful_apart m pins stored f = record { before = f.before; behind = f.behind; commands = f.commands; replayed = f.replayed; records = f.records; place = f.place; holds = f.holds }
+
+tail_apart : (m : Machine) (pins : Pins) → longest_tail m ≤ longest_tail (with_pins m pins)
+unfolding history top
+tail_apart m pins = omega arith
+
+slots_apart : (m : Machine) (pins : Pins) (slots : Slots) → AreKept (IsFaithful m) (length m.commands) (longest_tail m) slots → AreKept (IsFaithful (with_pins m pins)) (length m.commands) (longest_tail (with_pins m pins)) slots
+slots_apart m pins slots kept =
+    kept_more (IsFaithful m) (IsFaithful (with_pins m pins)) (length m.commands) (longest_tail m) (length m.commands) (longest_tail (with_pins m pins)) slots (λ stored f. faithful_apart m pins stored f) (omega (arith, kept.tail_is, tail_apart m pins)) kept
+
 -- an own image is own of the machine with other pins
 pub own_apart : (m : Machine) (pins : Pins) (image : Three (List ℕ)) → IsOwn m image → IsOwn (with_pins m pins) image
-own_apart m pins image own = record { file = record { start = own.file.start; replayed = record { replay = own.file.replayed.replay }; journal = own.file.journal } }
+own_apart m pins image own = record {
+  file = record { start = own.file.start; replayed = record { replay = own.file.replayed.replay }; journal = own.file.journal };
+  slots = slots_apart m pins (slots_in image) own.slots;
+}
 
 pub rests_apart : (m : Machine) (pins : Pins) (told : Told) → Rests (IsOwn m) told → Rests (IsOwn (with_pins m pins)) told
 rests_apart m pins nothing rests = tt

@@ -7,7 +7,12 @@ mod Records
 mod Syncing
 pub mod Once
 pub mod Resting
+mod Depths
+mod Nearing
 mod Taking
+mod Snapping
+mod Beginning
+mod Stopping
 mod Pinning
 mod Told
 pub mod Between

@@ -25,6 +25,8 @@ use Rattle.dmn_registry.proofs.Lengths.{start_long}
 use Rattle.dmn_registry.proofs.Syncing.{quiet_unread, rests_of}
 use Rattle.dmn_outside.specs.Changes.{unread}
 use Rattle.dmn_outside.proofs.Reading.{reads_back}
+use Rattle.dmn_slots.specs.Slots.{IsWithin, newest_mark, slots_in}
+use Rattle.std.specs.Prelude.{IfOk, IfSome}
 use Rattle.dmn_rows.specs.Defs.{IsStart, start_text}
 use Rattle.dmn_rows.specs.Start.{start_record, start_record_sound}
 use Rattle.dmn_rows.specs.declared.start.StartRecord.{StartRecord}
@@ -145,7 +147,7 @@ some_or d None = d
 some_or d (Some c) = c
 
 -- what reads give is the same
-reads_same : (a b : Told) (P : Three (List ℕ) → Type 0) → reads_of b ≡ reads_of a → IfReads b P → IfReads a P
+pub reads_same : (a b : Told) (P : Three (List ℕ) → Type 0) → reads_of b ≡ reads_of a → IfReads b P → IfReads a P
 reads_same nothing b P same p = tt
 reads_same (contents c) nothing P same p = let wrong : ⊥ = cc in absurd wrong
 reads_same (contents c) (contents d) P same p = let e : d ≡ c = ap (some_or c) same in subst P e p
@@ -155,13 +157,20 @@ reads_same (all_told w) (contents d) P same p = let e : d ≡ all_reads w.files 
 reads_same (all_told w) (all_told v) P same p = let e : all_reads v.files ≡ all_reads w.files = ap (some_or (all_reads w.files)) same in subst P e p
 
 -- replay behind three syncs
-pub opened : (r : Result Registry JournalFault) (old mid new : Told) → IsQuiet mid → reads_of mid ≡ reads_of old → unread new ≡ unread mid → Replays r mid → Opens r old new
-opened (Ok registry) old mid new still same reads replays =
-    let P : Three (List ℕ) → Type 0 = λ image. IsJournal (at_rest replays.0) image.zeroth in
-    (replays.0, record { registry_stands = replays.1; disk = rests_of P new (quiet_unread mid new reads still) (reads_back new mid P (sym reads) replays.2) })
-opened (Err (NotJournal place)) old mid new still same reads replays = reads_same old mid (λ all. DepartsAt all.zeroth place) same replays
-opened (Err DiskFault) old mid new still same reads replays = tt
-opened (Err Memory) old mid new still same reads replays = tt
+pub opened : (r : Result Registry JournalFault) (old mid new : Told) → IsQuiet mid → reads_of mid ≡ reads_of old → unread new ≡ unread mid → IfOk r (λ registry. IfSome registry.newest IsWithin × IfReads mid (λ all. registry.newest ≡ newest_mark (slots_in all))) → Replays r mid → Opens r old new
+opened (Ok registry) old mid new still same reads marked replays =
+    let P : Three (List ℕ) → Type 0 = λ image. IsJournal (at_rest replays.0) image.zeroth in (
+      replays.0,
+      record {
+        registry_stands = replays.1;
+        disk = rests_of P new (quiet_unread mid new reads still) (reads_back new mid P (sym reads) replays.2);
+        within = marked.0;
+        newest = reads_back new mid (λ all. registry.newest ≡ newest_mark (slots_in all)) (sym reads) marked.1;
+      },
+    )
+opened (Err (NotJournal place)) old mid new still same reads marked replays = reads_same old mid (λ all. DepartsAt all.zeroth place) same replays
+opened (Err DiskFault) old mid new still same reads marked replays = tt
+opened (Err Memory) old mid new still same reads marked replays = tt
 
 record Known (m n : Machine) (new : Told) : Type 0 where
   same : at_rest m ≡ at_rest n
@@ -185,7 +194,7 @@ pub recovers : (r : Result Registry JournalFault) (m : Machine) (old new : Told)
 recovers (Ok registry) m old new same known opens =
     let k = known_rests m (at_rest opens.0) old new same known opens.1.disk in
     let s = subst (λ (x : Machine). StandsFor registry x) (sym k.same) opens.1.registry_stands in
-    record { registry_stands = s; disk = rests_apart m no_pins new k.rests }
+    record { registry_stands = s; disk = rests_apart m no_pins new k.rests; within = opens.1.within; newest = opens.1.newest }
 recovers (Err (NotJournal place)) m old new same known opens = known_departs m old place known opens
 recovers (Err DiskFault) m old new same known opens = tt
 recovers (Err Memory) m old new same known opens = tt

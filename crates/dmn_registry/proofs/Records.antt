@@ -1,5 +1,5 @@
 -- Records that are read and taken, one after another.
-use Rattle.std.proofs.Common.{◌≡◌, inr, ℕ, ◌+◌, ◌≤◌, ◌==◌, Bool, true, false, List, [], ◌∷◌, ◌++◌, length, drop, refl, sym, ap, ◌∙◌, arith, append_assoc, if◌then◌else◌}
+use Rattle.std.proofs.Common.{◌≡◌, inr, ℕ, ◌+◌, ◌≤◌, ◌==◌, Bool, true, false, List, [], ◌∷◌, ◌++◌, length, drop, refl, sym, ap, subst, ◌∙◌, arith, append_assoc, if◌then◌else◌}
 use Rattle.std.specs.Prelude.{Some, Ok, Err, Result}
 use Rattle.std.proofs.lemmas.List.{append-nil}
 use Rattle.dmn_branch.specs.Stands as branches
@@ -7,6 +7,7 @@ use Rattle.dmn_bytes.specs.Law.{place_of}
 use Rattle.dmn_bytes.specs.declared.fault.Departure.{Departure}
 use Rattle.dmn_journal.specs.Journal.{AreShort, Entry, IsShort, blocks, entry_text, header_text, size_of_record}
 use Rattle.dmn_journal.specs.Reading.{Found, IsHeader, IsRecord, closed, departs, found, found_at}
+use Rattle.dmn_journal.specs.Reads.{Nexts}
 use Rattle.dmn_journal.specs.declared.fault.JournalFault.{JournalFault}
 use Rattle.dmn_journal.specs.declared.fault.JournalFault.TheVariants.{DiskFault, Memory, NotJournal}
 use Rattle.dmn_journal.proofs.Append.{blocks_push}
@@ -20,7 +21,6 @@ use Rattle.dmn_registry.specs.Opening.{IsRefused, Replayed, Replays, TakesRecord
 use Rattle.dmn_registry.specs.Own.{IsJournal, StandsFor}
 use Rattle.dmn_registry.specs.declared.registry.Registry.{Registry}
 use Rattle.dmn_registry.proofs.Keeping.{text_long}
-use Rattle.dmn_registry.proofs.Lengths.{header_long}
 use Rattle.dmn_registry.proofs.Verdicts.{is_denied, is_formless, is_too_long}
 use Rattle.dmn_branch.specs.Machine.{Command}
 use Rattle.dmn_registry.specs.Machine.{state_of, Verdict}
@@ -64,6 +64,14 @@ begun_replayed registry start told branch none usable header = record {
   text = reads_map told _ _ header.text (λ all is. is ∙ ap (λ (l : List ℕ). l ++ drop registry.journal.end all.zeroth) (sym (append-nil (header_text start))));
 }
 
+-- behind the header that was read
+pub begun_there : (registry : Registry) (start : StartRecord) (first : ℕ) (old mid : Told) → unread mid ≡ unread old → IsHeader old start first → branches.StandsFor registry.branch (state_of (begun start)) → registry.journal.end ≡ first → registry.journal.records ≡ 0 → registry.spent ≡ false → Replayed registry (begun start) mid
+begun_there registry start first old mid same header branch end none usable = begun_replayed registry start mid branch none usable (record {
+  is_start = header.is_start;
+  place = end ∙ header.place;
+  text = subst (λ (k : ℕ). IfReads mid (λ all. all.zeroth ≡ header_text start ++ drop k all.zeroth)) (sym end) (reads_back mid old _ (sym same) header.text);
+})
+
 -- ---- one more
 
 block_more : (header : List ℕ) (commands : List Entry) (entry : Entry) (rest : List ℕ) → (header ++ blocks commands) ++ 1 ∷ (entry_text entry ++ rest) ≡ (header ++ blocks (commands ++ entry ∷ [])) ++ rest
@@ -71,7 +79,7 @@ block_more header commands entry rest =
     sym (append_assoc (header ++ blocks commands) (1 ∷ entry_text entry) rest)
     ∙ ap (λ (l : List ℕ). l ++ rest) (append_assoc header (blocks commands) (1 ∷ entry_text entry) ∙ ap (λ (l : List ℕ). header ++ l) (sym (blocks_push commands entry)))
 
-short_push : (commands : List Entry) (entry : Entry) → AreShort commands → IsShort entry → AreShort (commands ++ entry ∷ [])
+pub short_push : (commands : List Entry) (entry : Entry) → AreShort commands → IsShort entry → AreShort (commands ++ entry ∷ [])
 short_push [] entry all fits = (fits, tt)
 short_push (e ∷ commands) entry all fits = (all.0, short_push commands entry all.1 fits)
 
@@ -115,6 +123,11 @@ module _ (registry : Registry) (m : Machine) (told mid : Told) (same : unread mi
   form_stops place is = reads_both told _ _ _ r.text (reads_back told mid _ same is) (λ all text stops.
       inr (at_rest m, registry.journal.end, record { start = r.registry_stands.start; replayed = r.registry_stands.replayed; place = r.registry_stands.end; short = r.short; text = text }, ap (λ (f : Found). stop_at (at_rest m) registry.journal.end f) stops))
 
+  pub next_stops : (fault : JournalFault) → Nexts (Err fault) mid registry.journal.end → Replays (Err fault) told
+  next_stops (NotJournal place) nexts = form_stops place nexts
+  next_stops DiskFault nexts = tt
+  next_stops Memory nexts = tt
+
 -- ---- behind a header
 
 pub replays_back : (r : Result Registry JournalFault) (old mid : Told) → unread mid ≡ unread old → Replays r mid → Replays r old
@@ -122,6 +135,3 @@ replays_back (Ok registry) old mid same (m, stands, image) = (m, stands, reads_b
 replays_back (Err (NotJournal place)) old mid same at = reads_back old mid (λ all. DepartsAt all.zeroth place) same at
 replays_back (Err DiskFault) old mid same at = tt
 replays_back (Err Memory) old mid same at = tt
-
-pub begun_end : (registry : Registry) (start : StartRecord) (told : Told) → Replayed registry (begun start) told → registry.journal.end ≤ 59768887
-begun_end registry start told r = omega (arith, r.registry_stands.end, ap length (append-nil (header_text start)), header_long start r.registry_stands.start)

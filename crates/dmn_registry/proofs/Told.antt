@@ -1,10 +1,10 @@
 -- What an audit tells, by rows that a branch lends.
-use Rattle.std.proofs.Common.{◌≡◌, ℕ, suc, ◌≤◌, ◌+◌, cond, true, false, List, [], ◌∷◌, length, refl, sym, ap, subst, ◌∙◌, arith}
+use Rattle.std.proofs.Common.{◌≡◌, ℕ, suc, ◌≤◌, cond, true, false, List, [], ◌∷◌, length, refl, sym, ap, subst, ◌∙◌, arith}
 use Rattle.std.proofs.lemmas.List.{length-map}
 use Rattle.std.specs.Prelude.{◌==◌, Option, None, Some, Result, Ok, Err, filter, not}
 use Rattle.dmn_block.specs.State.{State}
 use Rattle.dmn_branch.specs.Asked.{Lends, Lent}
-use Rattle.dmn_branch.specs.Machine.{MachineState, history, rows_of, state_at, tip}
+use Rattle.dmn_branch.specs.Machine.{history, rows_of, state_at, tip}
 use Rattle.dmn_branch.specs.Step.{most_rows}
 use Rattle.dmn_journal.specs.declared.fault.JournalFault.{JournalFault}
 use Rattle.dmn_journal.specs.declared.fault.JournalFault.TheVariants.{DiskFault, Memory, NotJournal}

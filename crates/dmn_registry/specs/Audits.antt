@@ -1,6 +1,5 @@
 -- What an audit tells.
 use Rattle.std.specs.Prelude.{◌≡◌, ◌==◌, Bool, not, List, length, filter, Result, Ok, Err}
-use Rattle.dmn_branch.specs.Machine as blocks
 use Rattle.dmn_branch.specs.Machine.{rows_of, state_at, tip}
 use Rattle.dmn_journal.specs.declared.fault.JournalFault.{JournalFault}
 use Rattle.dmn_journal.specs.declared.fault.JournalFault.TheVariants.{DiskFault, Memory, NotJournal}

@@ -1,8 +1,10 @@
 -- A registry, as the contracts see it. A reader begins here; the parts are:
 --   Machine  a start record and the commands that were accepted, and one command more
+--   Faithful what a slot says of a journal, and how many records may stand behind the newest one
 --   Own      images of a disk of which a machine is recovered, and a registry that stands for a machine on a disk
 --   Departs  where a file departs from a journal image
 --   Opening  what replay and opening answer
+--   Snapshots when a snapshot is written, and how much room it takes
 --   Steps    what a connect and a disconnect did, by their answers
 --   Audits   what an audit tells of a machine
 --   Laws     that a file is the image of one machine, and what a disk at rest leaves

@@ -1,8 +1,11 @@
 pub mod Defs
 pub mod Machine
+pub mod Faithful
 pub mod Own
 pub mod Departs
 pub mod Opening
+pub mod Untrue
+pub mod Snapshots
 pub mod Steps
 pub mod Audits
 pub mod Laws

@@ -1,10 +1,12 @@
 -- What replay and opening do.
-use Rattle.std.specs.Prelude.{◌≡◌, ℕ, Bool, true, false, List, ◌++◌, drop, Option, None, Some, Result, Ok, Err}
+use Rattle.std.specs.Prelude.{◌≡◌, ◌⊎◌, ℕ, Bool, true, false, List, ◌++◌, drop, length, Option, None, Some, IfSome, Result, Ok, Err}
 use Rattle.dmn_block.specs.declared.fault.BlockFault.{BlockFault}
 use Rattle.dmn_block.specs.declared.fault.BlockFault.TheVariants as forms
 use Rattle.dmn_block.specs.declared.refusal.Refusal.{Refusal}
 use Rattle.dmn_branch.specs.Machine as blocks
 use Rattle.dmn_branch.specs.Machine.{Command, Connect, Disconnect, MachineState}
+use Rattle.dmn_branch.specs.Pins.{no_pins}
+use Rattle.dmn_branch.specs.Replay.{IsLawful}
 use Rattle.dmn_branch.specs.Stands as branches
 use Rattle.dmn_branch.specs.Stands.{Keeping}
 use Rattle.dmn_branch.specs.declared.fault.DisconnectRefusal.{DisconnectRefusal}
@@ -17,12 +19,19 @@ use Rattle.dmn_journal.specs.declared.fault.JournalFault.{JournalFault}
 use Rattle.dmn_journal.specs.declared.fault.JournalFault.TheVariants.{DiskFault, Memory, NotJournal}
 use Rattle.dmn_outside.specs.Crashes.{AreSynced}
 use Rattle.dmn_outside.specs.Disk.{Three, Told, IfReads, all_reads, contents, nothing, whole}
-use Rattle.dmn_registry.specs.Departs.{DepartsAt, stop_by}
-use Rattle.dmn_registry.specs.Machine.{Accepts, Machine, at_rest, command_of, verdict, with_entry}
+use Rattle.dmn_registry.specs.Departs.{BeginsWith, DepartsAt, stop_by}
+use Rattle.dmn_registry.specs.Machine.{Accepts, Machine, at_rest, begun, command_of, state_of, verdict, with_entry}
 use Rattle.dmn_registry.specs.Own.{IsJournal, StandsFor, StandsOn, StandsOnFile}
 use Rattle.dmn_registry.specs.declared.command.Command as read
 use Rattle.dmn_registry.specs.declared.command.Command.TheVariants as commands
 use Rattle.dmn_registry.specs.declared.registry.Registry.{Registry}
+use Rattle.dmn_rows.specs.declared.start.StartRecord.{StartRecord}
+use Rattle.dmn_slots.specs.Slots.{IsWithin, mark_in}
+use Rattle.dmn_slots.specs.declared.mark.Mark.{Mark}
+use Rattle.dmn_snapshot.specs.Slot.{newest_in}
+use Rattle.dmn_snapshot.specs.declared.slot.Slot.{Slot}
+use Rattle.dmn_snapshot.specs.declared.slot.Stored.{Stored}
+use Rattle.dmn_branch.specs.Holds.{Holds}
 
 -- what reads give, where it is told
 abbrev pub reads_of : Told → Option (Three (List ℕ))
@@ -92,6 +101,57 @@ Replays (Ok registry) told = (m : Machine) × StandsFor registry (at_rest m) × 
 Replays (Err (NotJournal place)) told = IfReads told (λ all. DepartsAt all.zeroth place)
 Replays (Err DiskFault) told = Unit {0}
 Replays (Err Memory) told = Unit {0}
+
+-- ---- where replay begins
+
+-- A slot is true of a file: this begins with the header and as many records as the slot says, up to its place, and what the
+-- slot holds is the machine after these, which that machine accepts each in its place.
+pub record IsTrueOf (file : List ℕ) (stored : Stored) : Type 0 where
+  pub machine : Machine
+  pub begins : BeginsWith file (at_rest machine) stored.position
+  pub records : stored.records ≡ length machine.commands
+  pub holds : Holds stored.held (state_of (at_rest machine))
+
+-- the newest slot, where there is one, is true of file 0
+abbrev pub HasTrueSlot : Three (List ℕ) → Type 0
+HasTrueSlot image = IfSome (newest_in image) (λ slot. IsTrueOf image.zeroth slot.stored)
+
+-- what reads give is told, and has P
+abbrev pub Reading : (Three (List ℕ) → Type 0) → Told → Type 0
+Reading P nothing = ⊥
+Reading P (contents c) = P c
+Reading P (whole w) = P (all_reads w.files)
+
+-- a slot holds no machine of this start record
+abbrev pub HoldsNone : StartRecord → Stored → Type 0
+HoldsNone start stored = (s : MachineState) → s.start ≡ start → IsLawful s.start (blocks.branch s) → ¬ Holds stored.held s
+
+-- behind the header, without commands: there is no slot, or what it holds is no machine
+pub record FromHeader (start : StartRecord) (first : ℕ) (slot : Option Slot) (registry : Registry) : Type 0 where
+  pub unfit : IfSome slot (λ slot. HoldsNone start slot.stored)
+  pub branch : branches.StandsFor registry.branch (state_of (begun start))
+  pub end : registry.journal.end ≡ first
+  pub records : registry.journal.records ≡ 0
+
+-- at the slot's place, with the machine that it holds
+pub record FromSlot (start : StartRecord) (slot : Option Slot) (registry : Registry) : Type 0 where
+  pub from : Slot
+  pub is : slot ≡ Some from
+  pub branch : (s : MachineState) → s.start ≡ start → IsLawful s.start (blocks.branch s) → Holds from.stored.held s → branches.StandsFor registry.branch (record s { pins = no_pins })
+  pub end : registry.journal.end ≡ from.stored.position
+  pub records : registry.journal.records ≡ from.stored.records
+
+-- where the replay of a journal begins, by its header and the newest slot
+pub record Begins (start : StartRecord) (first : ℕ) (slot : Option Slot) (registry : Registry) : Type 0 where
+  pub usable : registry.spent ≡ false
+  pub newest : registry.newest ≡ mark_in slot
+  pub within : IfSome registry.newest IsWithin
+  pub at : FromHeader start first slot registry ⊎ FromSlot start slot registry
+
+-- the newest slot's place, or the header's end where there is none
+abbrev pub first_place : ℕ → Option Mark → ℕ
+first_place first None = first
+first_place first (Some mark) = mark.position
 
 -- ---- opening
 

@@ -1,12 +1,14 @@
 -- Own images and the machine that is recovered from one, and a registry that stands for a machine on a disk.
-use Rattle.std.specs.Prelude.{◌≡◌, ◌⊎◌, false, List, ℕ, length}
+use Rattle.std.specs.Prelude.{◌≡◌, ◌⊎◌, false, List, ℕ, length, IfSome}
 use Rattle.dmn_branch.specs.Stands as branches
 use Rattle.dmn_outside.specs.Crashes.{Rests}
-use Rattle.dmn_outside.specs.Disk.{Three, Told}
+use Rattle.dmn_outside.specs.Disk.{IfReads, Three, Told}
 use Rattle.dmn_journal.specs.Journal.{Entry, HasCommands, gate_place, header_text}
+use Rattle.dmn_registry.specs.Faithful.{IsFaithful, longest_tail}
 use Rattle.dmn_registry.specs.Machine.{Machine, IsReplayed, Accepts, Reaches, at_rest, state_of}
 use Rattle.dmn_registry.specs.declared.registry.Registry.{Registry}
 use Rattle.dmn_rows.specs.Defs.{IsStart}
+use Rattle.dmn_slots.specs.Slots.{AreKept, IsWithin, newest_mark, slots_in}
 
 -- A file is a journal image, and this is the machine that is recovered from it, pins aside: its start record, and the records
 -- behind its open gates up to the first that is closed, each of which the machine accepts in its place.
@@ -15,9 +17,11 @@ pub record IsJournal (m : Machine) (file : List ℕ) : Type 0 where
   pub replayed : IsReplayed m
   pub journal : HasCommands (header_text m.start) m.commands file
 
--- An image is own, and this is the machine that is recovered from it, pins aside.
+-- An image is own, and this is the machine that is recovered from it, pins aside: that of file 0. Each valid slot is faithful,
+-- of two one is older and has fewer records, and few records stand behind the newest.
 pub record IsOwn (m : Machine) (image : Three (List ℕ)) : Type 0 where
   pub file : IsJournal m image.zeroth
+  pub slots : AreKept (IsFaithful m) (length m.commands) (longest_tail m) (slots_in image)
 
 -- an image is own, of the machine before a command or after it
 abbrev pub OwnWith : Machine → Entry → Three (List ℕ) → Type 0
@@ -46,10 +50,13 @@ pub record StandsFor (registry : Registry) (m : Machine) : Type 0 where
   pub start : IsStart m.start
   pub replayed : IsReplayed m
 
--- and the disk is at rest with an image that has P, as far as this is told
+-- and the disk is at rest with an image that has P, and whose newest slot has the mark that the registry keeps, as far as this
+-- is told
 pub record StandsWith (P : Three (List ℕ) → Type 0) (registry : Registry) (m : Machine) (told : Told) : Type 0 where
   pub registry_stands : StandsFor registry m
   pub disk : Rests P told
+  pub within : IfSome registry.newest IsWithin
+  pub newest : IfReads told (λ all. registry.newest ≡ newest_mark (slots_in all))
 
 -- The registry stands for the machine on a disk of which this is told.
 abbrev pub StandsOn : Registry → Machine → Told → Type 0

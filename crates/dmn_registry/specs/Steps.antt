@@ -13,6 +13,8 @@ use Rattle.dmn_registry.specs.declared.fault.ConnectFault.TheVariants as connect
 use Rattle.dmn_registry.specs.declared.fault.DisconnectFault.{DisconnectFault}
 use Rattle.dmn_registry.specs.declared.fault.DisconnectFault.TheVariants as disconnects
 use Rattle.dmn_registry.specs.declared.registry.Registry.{Registry}
+use Rattle.dmn_snapshot.specs.declared.fault.SnapFault.{SnapFault}
+use Rattle.dmn_snapshot.specs.declared.fault.SnapFault.TheVariants as snapshots
 
 -- the registry took the command: it stands for the machine with it, on the disk
 pub record Took (m : Machine) (entry : Entry) (new : Registry) (told : Told) : Type 0 where
@@ -47,6 +49,11 @@ abbrev pub IsIdleDisconnect : Result (Unit {0}) DisconnectFault → Type 0
 IsIdleDisconnect (Ok done) = ⊥
 IsIdleDisconnect (Err disconnects.DiskFault) = ⊥
 IsIdleDisconnect (Err fault) = Unit {0}
+
+-- how a fault of a snapshot is answered
+abbrev pub connect_fault : SnapFault → ConnectFault
+connect_fault snapshots.DiskFault = connects.DiskFault
+connect_fault snapshots.Memory = connects.Memory
 
 -- how a refusal of the branch is answered
 abbrev pub disconnect_fault : DisconnectRefusal → DisconnectFault

@@ -60,8 +60,8 @@ fn banned_in(mut rows: Listing<'_>) -> u32
 }
 
 impl Registry {
-    // What it leads to.
-    fn told(&self) -> Audit
+    /// What the registry's commands lead to, as an audit tells it.
+    pub fn summary(&self) -> Audit
         requires { (m : Machine) × StandsFor self.now m }
         ensures { (m : Machine) → StandsFor self.now m → result ≡ audit_of m }
     {
@@ -95,7 +95,7 @@ impl Registry {
         ensures sure { D.tells_room ≡ true → NeverFails result JournalFault.DiskFault (D.disk disk.old) (D.disk disk.new) }
     {
         match replay(alloc, disk) {
-            Ok(registry) => Ok(registry.told()),
+            Ok(registry) => Ok(registry.summary()),
             Err(fault) => Err(fault),
         }
     }

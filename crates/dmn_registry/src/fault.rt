@@ -3,6 +3,7 @@
 use dmn_block::Refusal;
 use dmn_branch::DisconnectRefusal;
 use dmn_bytes::Hash256;
+use dmn_snapshot::SnapFault;
 use thiserror::Error;
 
 /// Why a block was not connected.
@@ -20,6 +21,20 @@ pub enum ConnectFault {
     /// Memory ran out. Nothing was written.
     #[error("memory ran out")]
     Memory,
+}
+
+impl From<SnapFault> for ConnectFault {
+    ghost use Rattle.std.specs.Prelude.{◌≡◌};
+    ghost use Rattle.dmn_registry.specs.Steps.{connect_fault};
+
+    ghost from_gives = { λ fault other. other ≡ connect_fault fault };
+
+    fn from(fault: SnapFault) -> ConnectFault {
+        match fault {
+            SnapFault::DiskFault => ConnectFault::DiskFault,
+            SnapFault::Memory => ConnectFault::Memory,
+        }
+    }
 }
 
 /// Why the last block was not taken back.

@@ -1,4 +1,4 @@
-//! A registry: a branch whose commands are durable before they are answered.
+//! A registry: a branch whose commands are durable before they are answered, and whose snapshots spare an opening most of them.
 #![tactic(auto)]
 
 mod auditing;
@@ -8,8 +8,10 @@ mod fault;
 mod laws;
 mod opening;
 mod pins;
+mod quorums;
 mod registry;
 mod replaying;
+mod snapshots;
 
 pub use auditing::{Audit, AuditFault};
 pub use fault::{ConnectFault, DisconnectFault};

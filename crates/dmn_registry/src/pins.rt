@@ -26,6 +26,7 @@ impl Registry {
         ensures pinned { (m : Machine) (told : Told) → StandsOn self.old m told → IfOk result (λ number. StandsOn self.new (pinned m number height) told) }
         ensures same { (m : Machine) (told : Told) → StandsOn self.old m told → OnErr result (StandsOn self.new m told) }
         ensures journal { self.new.journal ≡ self.old.journal }
+        ensures newest { self.new.newest ≡ self.old.newest }
         ensures spent { self.new.spent ≡ false }
     {
         self.branch.pin(height)
@@ -39,6 +40,7 @@ impl Registry {
         // The disk stays as it is.
         ensures released { (m : Machine) (told : Told) → StandsOn self.old m told → MatchBool result (StandsOn self.new (released m pin) told) (StandsOn self.new m told) }
         ensures journal { self.new.journal ≡ self.old.journal }
+        ensures newest { self.new.newest ≡ self.old.newest }
         ensures spent { self.new.spent ≡ false }
     {
         self.branch.release(pin)

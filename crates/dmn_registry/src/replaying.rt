@@ -1,6 +1,6 @@
 //! File 0 is replayed: its records are read one after another, and the branch follows each.
 
-ghost use Rattle.std.specs.Prelude.{◌≡◌, ◌+◌, ◌≤◌, ◌<◌, ◌^◌, true, None, IfOk, OnOk, IsErrOf};
+ghost use Rattle.std.specs.Prelude.{◌≡◌, ◌+◌, ◌≤◌, ◌<◌, ◌^◌, false, true, None, IfOk, OnOk, IsErrOf};
 ghost use Rattle.dmn_branch.specs.Machine.{MachineState};
 ghost use Rattle.dmn_branch.specs.Stands as branches;
 ghost use Rattle.dmn_outside.specs.Changes.{OnlyReads, bytes_read};
@@ -9,9 +9,13 @@ ghost use Rattle.dmn_journal.specs.Journal.{IsShort, size_of_record};
 ghost use Rattle.dmn_journal.specs.Reading.{entry_departs};
 ghost use Rattle.dmn_journal.specs.Reads.{entry_of};
 ghost use Rattle.dmn_journal.specs.Sure.{NeverFails};
-ghost use Rattle.dmn_registry.specs.Machine.{Machine, begun, journal_max};
+ghost use Rattle.dmn_registry.specs.Machine.{Machine, begun, journal_max, state_of};
 ghost use Rattle.dmn_registry.specs.Opening.{Follows, IsSound, Replayed, Replays, TakesRecord, seen};
 ghost use Rattle.dmn_registry.specs.Own.{StandsFor};
+ghost use Rattle.dmn_registry.specs.Untrue.{ReplayStops, StandsForHeld, TakeStops, TakesCommand};
+ghost use Rattle.dmn_rows.specs.Defs.{IsStart, KeepsBounds};
+ghost use Rattle.dmn_rows.specs.declared.start.StartRecord.{StartRecord};
+ghost use Rattle.dmn_held.specs.declared.data.SnapshotData.{SnapshotData};
 
 use crate::command::{Command, read_command};
 use crate::registry::Registry;
@@ -20,7 +24,8 @@ use dmn_branch::{Branch, PrepareFault};
 use dmn_bytes::Memory;
 use dmn_journal::{Journal, JournalEntry, JournalFault, header, next};
 use dmn_outside::Disk;
-use dmn_rows::StartRecord;
+use dmn_rows::{StartRecord, profile_of};
+use dmn_slots::Mark;
 use std::alloc::Global;
 
 // The branch follows a command, or the rules refuse it.
@@ -61,8 +66,12 @@ impl Registry {
         requires place { behind ≡ self.old.journal.end + size_of_record (entry_of entry.now) }
         requires fits { self.old.journal.end < 2 ^ 62 }
         ensures takes { (m : Machine) → StandsFor self.old m → limit ≡ journal_max m.start → TakesRecord result m (entry_of entry.now) self.old.journal.end self.new }
+        ensures followed { (s : MachineState) → branches.StandsFor self.old.branch s → OnOk result (TakesCommand s (entry_of entry.now) self.new.branch) }
+        ensures stops { TakeStops result (entry_of entry.now) self.old.journal.end limit self.old.branch }
         ensures end { OnOk result (self.new.journal.end ≡ behind) }
         ensures below { OnOk result (behind < limit) }
+        ensures newest { self.new.newest ≡ self.old.newest }
+        ensures spent { self.new.spent ≡ self.old.spent }
         ensures disk { ¬ IsErrOf result JournalFault.DiskFault }
     {
         let at = self.journal.end;
@@ -91,15 +100,61 @@ impl Registry {
     }
 }
 
-// The records from the journal's end on, up to the first gate that is closed.
-fn replay_records<D: Disk>(
+/// The length above which no journal of this start record grows.
+pub fn limit_of(start: &StartRecord) -> u64
+    requires { KeepsBounds start.now }
+    ensures is { result ≡ journal_max start.now }
+    ensures few { result ≤ 2 ^ 40 }
+{
+    match profile_of(start.profile) {
+        Some(profile) => profile.journal_max,
+        None => unreachable!(),
+    }
+}
+
+/// A registry without commands, whose journal ends behind the header.
+pub fn at_header(
+    alloc: Global,
+    start: &StartRecord,
+    first: u64,
+    newest: Option<Mark>,
+) -> Result<Registry, Memory>
+    requires { IsStart start.now }
+    ensures branch { IfOk result (λ r. branches.StandsFor r.branch (state_of (begun start.now))) }
+    ensures end { IfOk result (λ r. r.journal.end ≡ first) }
+    ensures records { IfOk result (λ r. r.journal.records ≡ 0) }
+    ensures newest { IfOk result (λ r. r.newest ≡ newest) }
+    ensures usable { IfOk result (λ r. r.spent ≡ false) }
+{
+    let branch = Branch::start(alloc, start)?;
+    Ok(Registry {
+        branch,
+        journal: Journal {
+            end: first,
+            records: 0,
+        },
+        newest,
+        spent: false,
+    })
+}
+
+/// The records from the journal's end on, up to the first gate that is closed, where no journal is longer than this.
+pub fn replay_records<D: Disk>(
     alloc: Global,
     disk: &mut D,
-    start: &StartRecord,
+    limit: u64,
     mut registry: Registry,
 ) -> Result<Registry, JournalFault>
-    requires begun { Replayed registry (begun start.now) (D.disk disk.old).told }
-    ensures replays { Replays result (D.disk disk.old).told }
+    requires usable { registry.spent ≡ false }
+    requires place { registry.journal.end < 2 ^ 62 }
+    requires limit { limit ≤ 2 ^ 40 }
+
+    // Whatever machine the registry stands for so far.
+    ensures replays { (k : Machine) → limit ≡ journal_max k.start → Replayed registry k (D.disk disk.old).told → Replays result (D.disk disk.old).told }
+    // Whatever it stands for: where its branch does for what a text holds, it stops for a cause.
+    ensures stops { (start : StartRecord) (held : SnapshotData) → limit ≡ journal_max start → StandsForHeld registry.branch start held → ReplayStops result start held registry.journal.end (D.disk disk.old).told }
+    ensures usable { IfOk result (λ r. r.spent ≡ false) }
+    ensures newest { IfOk result (λ r. r.newest ≡ registry.newest) }
     ensures disk { OnlyReads (D.disk disk.old) (D.disk disk.new) }
     ensures read { IfOk result (λ r. bytes_read 0 (D.disk disk.new).told + registry.journal.end ≤ bytes_read 0 (D.disk disk.old).told + r.journal.end + 1) }
     ensures line { D.line disk.new ≡ D.line disk.old }
@@ -109,7 +164,6 @@ fn replay_records<D: Disk>(
     ensures fault { IsErrOf result JournalFault.DiskFault → Rose (D.disk disk.old).faults (D.disk disk.new).faults }
     ensures sure { D.tells_room ≡ true → NeverFails result JournalFault.DiskFault (D.disk disk.old) (D.disk disk.new) }
 {
-    let limit = registry.branch.profile().journal_max;
     'replay: loop {
         let at = registry.journal.end;
         match next(alloc, disk, at) {
@@ -141,16 +195,8 @@ pub fn replay<D: Disk>(alloc: Global, disk: &mut D) -> Result<Registry, JournalF
         Ok(found) => found,
         Err(fault) => return Err(fault),
     };
-    let Ok(branch) = Branch::start(alloc, &start) else {
+    let Ok(registry) = at_header(alloc, &start, first, None) else {
         return Err(JournalFault::Memory);
     };
-    let registry = Registry {
-        branch,
-        journal: Journal {
-            end: first,
-            records: 0,
-        },
-        spent: false,
-    };
-    replay_records(alloc, disk, &start, registry)
+    replay_records(alloc, disk, limit_of(&start), registry)
 }

@@ -2,7 +2,7 @@ use Rattle.std.proofs.Common.{ap}
 use Rattle.dmn_branch.specs.declared.tip.Tip.{Tip}
 use Rattle.dmn_registry.specs.Machine.{state_of}
 use Rattle.dmn_registry.proofs.Told.{audit_is, few_told}
-use Rattle.dmn_registry.proofs.registry.Registry.told.Goals as goal
+use Rattle.dmn_registry.proofs.registry.Registry.summary.Goals as goal
 
 pub banned_in-requires : goal.banned_in-requires
 banned_in-requires c =

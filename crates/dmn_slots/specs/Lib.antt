@@ -1,0 +1,3 @@
+pub mod Defs
+pub mod Slots
+pub mod Laws

@@ -5,11 +5,13 @@ use Rattle.dmn_outside.specs.Changes.{OnlyReads}
 use Rattle.dmn_outside.specs.Counts.{Rose}
 use Rattle.dmn_outside.specs.Crashes.{IsKnown, LeavesOnly}
 use Rattle.dmn_outside.specs.Disk.{DiskView, IfReads}
+use Rattle.dmn_outside.specs.Later.{IsLater}
 use Rattle.dmn_outside.specs.Line.{LineView}
 use Rattle.dmn_journal.specs.Create.{IsBlank, IsBlankDisk}
 use Rattle.dmn_frames.specs.Frames.{Cuts, Frame}
 use Rattle.dmn_registry.specs.Audits.{audit_of}
 use Rattle.dmn_registry.specs.Machine.{Machine, at_rest}
+use Rattle.dmn_registry.specs.Opening.{HasTrueSlot, Reading}
 use Rattle.dmn_registry.specs.Own.{IsOwn}
 use Rattle.dmn_rows.specs.Defs.{IsStartText}
 use Rattle.dmn_rows.specs.declared.start.StartRecord.{StartRecord}
@@ -23,10 +25,13 @@ use Rattle.dmn_audit.specs.Text.{audit_text}
 use Rattle.dmn_light.specs.Laws as client_laws
 use Rattle.dmn_light.specs.Outcome as clients
 use Rattle.dmn_light.specs.Room as client_room
+use Rattle.dmn_serve.specs.Outcome as serves
+use Rattle.dmn_serve.specs.Passing.{IsPassing}
+use Rattle.dmn_serve.specs.Room as serve_room
 use Rattle.dmn_status.specs.declared.status.Status.{Status}
 use Rattle.dmn_status.specs.declared.status.Status.TheVariants as statuses
 use Rattle.dmn_commands.specs.declared.command.Command.{Command}
-use Rattle.dmn_commands.specs.declared.command.Command.TheVariants.{Audit, Client, Feed, Init}
+use Rattle.dmn_commands.specs.declared.command.Command.TheVariants.{Audit, Client, Feed, Init, Serve}
 
 -- a run over a station: whether it tells its contents, their moments, and its room; how many bytes more could be sent when it
 -- began; when it began and ended; the disk and the line before and behind it
@@ -72,8 +77,11 @@ pub record RunsFeed (status : Status) (run : Run) : Type 0 where
   pub exact : run.tells ≡ true → (frames : List Frame) (left : List ℕ) → Cuts run.old.talk.left frames left → feed_laws.EndsExactly status frames left
   -- on a disk at rest whose image is own the run ends as its frames say, or with Memory
   pub complete : run.tells ≡ true → (m : Machine) → IsKnown (IsOwn m) run.before.told → IsCalm run → (frames : List Frame) (left : List ℕ) → Cuts run.old.talk.left frames left → (status ≡ feed_laws.status_of frames left) ⊎ (status ≡ statuses.Memory)
-  -- NotJournal tells where file 0 departs from a journal image
-  pub departs : feeds.NotJournalTells status run.before.told
+  -- where the newest slot is true of file 0: frames are answered only where this is a journal image, and NotJournal tells where it
+  -- departs from one
+  pub opens : Reading HasTrueSlot run.before.told → feeds.OpensOn status run.before.told
+  -- whatever the slots hold, NotJournal comes only for a cause that is in the file
+  pub cause : feeds.StopsFor status run.before.told
   -- NotJournal and Memory come before anything is taken or sent
   pub unserved : ¬ feeds.IsRunning status → run.new ≡ run.old
   -- answers are sent turn by turn, each behind the moment at which its turn began
@@ -108,8 +116,42 @@ pub record RunsClient (status : Status) (run : Run) : Type 0 where
   -- no call of the disk is made
   pub disk : run.behind ≡ run.before
 
+-- `serve`: callers are served over HTTP by the registry of the disk.
+pub record RunsServe (most : ℕ) (status : Status) (run : Run) : Type 0 where
+  pub ends : serves.OfServe status
+  -- On a disk at rest whose image is own: each caller was sent the reply of the machine to its bytes, or the 503 of Memory, or
+  -- was given up where its line failed; since each reply's send each image of a crash has its command; and since the start each
+  -- image is own, with the commands of before and then some front of those that were accepted.
+  pub outcome : run.tells ≡ true → (m : Machine) → IsKnown (IsOwn m) run.before.told → serves.Outcome status most run.stamped run.started (at_rest m) run.before run.behind run.old run.new
+  -- Done and LineFault come only where as many callers came as they say
+  pub exact : run.tells ≡ true → serves.EndsExactly status most run.old.talk run.new.talk
+  -- on a disk at rest whose image is own, where no count of the disk's or of callers' faults rose, the run ends with Done or Memory
+  pub complete : run.tells ≡ true → (m : Machine) → IsKnown (IsOwn m) run.before.told → ¬ Rose run.before.faults run.behind.faults → ¬ Rose run.old.caller_faults run.new.caller_faults → (status ≡ statuses.Done) ⊎ (status ≡ statuses.Memory)
+  -- where the newest slot is true of file 0: callers are served only where this is a journal image, and NotJournal tells where it
+  -- departs from one
+  pub opens : Reading HasTrueSlot run.before.told → serves.OpensOn status run.before.told
+  -- whatever the slots hold, NotJournal comes only for a cause that is in the file
+  pub cause : serves.StopsFor status run.before.told
+  -- NotJournal and Memory come before a caller is taken
+  pub unserved : ¬ serves.IsRunning status → run.new ≡ run.old
+  -- where there is room for whatever may be sent to callers and kept, no count of faults rises, and all callers are served whole,
+  -- or the run ends with Memory
+  pub sure : run.tells ≡ true → run.tells_room ≡ true → (m : Machine) → IsKnown (IsOwn m) run.before.told → serve_room.Suffices (at_rest m) most run.room run.before.room run.old.talk.later → serve_room.EndsSurely status run.old run.new run.before run.behind
+
 abbrev pub Runs : Command → Status → Run → Type 0
 Runs Init status run = RunsInit status run
 Runs Feed status run = RunsFeed status run
 Runs Audit status run = RunsAudit status run
 Runs Client status run = RunsClient status run
+Runs (Serve callers) status run = RunsServe callers status run
+
+-- What holds of the line besides its bytes: no count falls, time doesn't, and each byte that is sent has a moment of the run. But
+-- for `serve`, the count of callers' faults is as before, and only the caller that was there was sent something.
+abbrev pub Passes : Command → Bool → ℕ → ℕ → LineView → LineView → Type 0
+Passes (Serve callers) stamped from to old new = IsPassing stamped from to old new
+Passes command stamped from to old new = IsLater stamped from to old new
+
+-- the count of faults for which LineFault stands
+abbrev pub count_by : Command → LineView → ℕ
+count_by (Serve callers) line = line.caller_faults
+count_by command line = line.faults

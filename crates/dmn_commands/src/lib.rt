@@ -2,6 +2,7 @@
 #![tactic(auto)]
 
 mod command;
+mod count;
 mod top;
 
 pub use dmn_status::Status;

@@ -3,8 +3,7 @@
 ghost use Rattle.std.specs.Prelude.{◌≡◌, ◌≢◌, ◌≤◌, true, None, Some, map};
 ghost use Rattle.std.specs.String.{string_bytes};
 ghost use Rattle.dmn_outside.specs.Counts.{Rose};
-ghost use Rattle.dmn_outside.specs.Later.{IsLater};
-ghost use Rattle.dmn_commands.specs.Outcome.{Runs};
+ghost use Rattle.dmn_commands.specs.Outcome.{Passes, Runs, count_by};
 ghost use Rattle.dmn_commands.specs.Words.{command_of};
 ghost use Rattle.dmn_commands.specs.declared.command.Command as commands;
 
@@ -14,6 +13,7 @@ use dmn_feed::feed;
 use dmn_init::init;
 use dmn_light::client;
 use dmn_outside::Station;
+use dmn_serve::serve;
 use dmn_status::Status;
 use std::alloc::Global;
 
@@ -37,12 +37,12 @@ pub fn dmn_main<T: Station>(alloc: Global, words: &[String], station: &mut T) ->
     ensures no_form { command_of (map string_bytes words.now) ≡ None → (result ≡ Status.Words) × (station.new ≡ station.old) }
     ensures in_form { command_of (map string_bytes words.now) ≢ None → result ≢ Status.Words }
 
-    // The line's other meanings: no count falls, that of callers' faults is as before, time doesn't fall, and each byte
-    // that is sent has a moment of this call.
-    ensures later { IsLater T.tells_moments (T.time station.old) (T.time station.new) (T.line station.old) (T.line station.new) }
+    // The line's other meanings: no count falls, time doesn't fall, and each byte that is sent has a moment of this call.
+    ensures later { (command : commands.Command) → command_of (map string_bytes words.now) ≡ Some command → Passes command T.tells_moments (T.time station.old) (T.time station.new) (T.line station.old) (T.line station.new) }
 
-    // A fault comes only where its count rose, and that of the disk doesn't fall either.
-    ensures line_fault { result ≡ Status.LineFault → Rose (T.line station.old).faults (T.line station.new).faults }
+    // A fault comes only where its count rose, LineFault of `serve` where that of callers' faults did; that of the disk doesn't
+    // fall either.
+    ensures line_fault { (command : commands.Command) → command_of (map string_bytes words.now) ≡ Some command → result ≡ Status.LineFault → Rose (count_by command (T.line station.old)) (count_by command (T.line station.new)) }
     ensures disk_fault { result ≡ Status.DiskFault → Rose (T.disk station.old).faults (T.disk station.new).faults }
     ensures disk_later { (T.disk station.old).faults ≤ (T.disk station.new).faults }
 {
@@ -52,5 +52,6 @@ pub fn dmn_main<T: Station>(alloc: Global, words: &[String], station: &mut T) ->
         Some(Command::Feed) => feed(alloc, station),
         Some(Command::Audit) => audit(alloc, station),
         Some(Command::Client) => client(alloc, station),
+        Some(Command::Serve { callers }) => serve(alloc, callers, station),
     }
 }

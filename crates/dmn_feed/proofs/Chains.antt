@@ -22,7 +22,8 @@ use Rattle.dmn_rows.specs.declared.start.StartRecord.{StartRecord}
 use Rattle.dmn_status.specs.declared.status.Status.{Status}
 use Rattle.dmn_status.specs.declared.status.Status.TheVariants as statuses
 use Rattle.dmn_feed.specs.Laws.{ChainsKeepAnswered, HasFrontOfRun, ImagesHaveFronts, IsRunOn, KeepsAll, KeepsAnswered, Run}
-use Rattle.dmn_feed.specs.Outcome.{Answered, InHand, IsLasting, Outcome, Sent, SentBefore}
+use Rattle.dmn_office.specs.Lasting.{IsLasting}
+use Rattle.dmn_feed.specs.Outcome.{Answered, InHand, Outcome, Sent, SentBefore}
 use Rattle.dmn_feed.specs.Serving.{Serves}
 use Rattle.dmn_feed.proofs.Fed.{serves_map}
 

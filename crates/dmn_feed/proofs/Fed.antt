@@ -1,28 +1,30 @@
 -- Frames that are answered one after another.
-use Rattle.std.proofs.Common.{◌≡◌, ◌⊎◌, inl, inr, ⊎_elim, ℕ, ◌+◌, ◌≤◌, ◌<◌, Bool, List, [], ◌∷◌, ◌++◌, length, take, drop, refl, sym, ap, subst, ◌∙◌, append_assoc, arith}
+use Rattle.std.proofs.Common.{◌≡◌, inl, inr, ℕ, ◌+◌, ◌≤◌, ◌<◌, Bool, List, [], ◌∷◌, ◌++◌, length, take, drop, refl, sym, ap, subst, ◌∙◌, append_assoc, arith}
 use Rattle.std.specs.Prelude.{Some}
 use Rattle.std.specs.List.{All, flat_map}
 use Rattle.std.proofs.lemmas.List.{append-nil, length-append, length-drop, take-append-drop}
 use Rattle.std.proofs.lemmas.List.Elements.{All-nil, All-push, All-weaker}
-use Rattle.std.proofs.lemmas.Bool.{cases_lt}
 use Rattle.std.proofs.lemmas.Grind.{flat_map-append}
-use Rattle.dmn_outside.specs.Crashes.{LeavesOnly, Rests}
+use Rattle.dmn_outside.specs.Crashes.{Rests}
 use Rattle.dmn_outside.specs.Disk.{AreOver, DiskView}
 use Rattle.dmn_outside.specs.Line.{LineView, Moments, Talk}
-use Rattle.dmn_outside.proofs.Crash.{only_now}
 use Rattle.dmn_desk.specs.declared.answer.Answer.{Answer}
 use Rattle.dmn_desk.specs.Texts.{Fits, frame_of}
 use Rattle.dmn_frames.specs.Frames.{Begins, Frame, frame_at}
 use Rattle.dmn_frames.specs.Steps.{Emptied, Faulted}
 use Rattle.dmn_registry.specs.Machine.{Accepts, Machine}
-use Rattle.dmn_registry.specs.Own.{IsBetween, IsOwn, Leads}
-use Rattle.dmn_registry.proofs.Between.{between_from, between_self, between_to, leads_on, leads_one, leads_self, run_on, since_later, unmoved}
-use Rattle.dmn_registry.proofs.Resting.{rests_images}
-use Rattle.dmn_feed.specs.declared.office.Office.{Office}
-use Rattle.dmn_feed.specs.Offices.{GoesOn, StandsAt}
-use Rattle.dmn_feed.specs.Outcome.{Answered, InHand, IsLasting, Sent, SentBefore, entry_of, last_bytes, most}
+use Rattle.dmn_registry.specs.Own.{IsOwn}
+use Rattle.dmn_registry.proofs.Between.{leads_on, leads_self, run_on, unmoved}
+use Rattle.dmn_journal.specs.Journal.{Entry}
+use Rattle.dmn_office.specs.declared.office.Office.{Office}
+use Rattle.dmn_office.specs.Lasting.{IsLasting, SentLater}
+use Rattle.dmn_office.specs.Offices as offices
+use Rattle.dmn_office.specs.Offices.{GoesOn, StandsAt}
+use Rattle.dmn_office.proofs.Lasting.{lasts_here, lasts_on}
+use Rattle.dmn_office.proofs.Moving.{hand_leads}
+use Rattle.dmn_feed.specs.Outcome.{Answered, InHand, Sent, SentBefore, entry_of, last_bytes, most}
 use Rattle.dmn_feed.specs.Serving.{MayAnswer, Serves}
-use Rattle.dmn_feed.specs.Steps.{IsStill, MayBreak, SentFewer, SentLater, Turned}
+use Rattle.dmn_feed.specs.Steps.{IsStill, MayBreak, SentFewer, Turned}
 
 pub Begins-more : (text : List ℕ) (frames : List Frame) (left : List ℕ) (frame : Frame) (after : List ℕ) → Begins text frames left → frame_at left ≡ Some (frame, after) → Begins text (frames ++ frame ∷ []) after
 Begins-more text [] left frame after b e = (after, ap frame_at (sym b) ∙ e, refl)
@@ -44,23 +46,6 @@ serves_more P m (f ∷ frames) (a ∷ answers) moments n frame answer here o s m
     (s.0, s.1, s.2 ++ here, s.3, ap (λ (l : List ℕ). l ++ here) s.4 ∙ append_assoc s.1 s.2 here, s.5, s.6, serves_more P s.0 frames answers s.2 n frame answer here o s.7 may count all)
 serves_more P m [] (a ∷ answers) moments n frame answer here o s may count all = absurd s
 serves_more P m (f ∷ frames) [] moments n frame answer here o s may count all = absurd s
-
--- what has lasted lasts through a later run
-lasts_on : (t later : ℕ) (old new : DiskView) (n o mid : Machine) → IsLasting old n mid t → Leads n o → LeavesOnly later old new (IsBetween n o) → IsLasting new o mid t
-lasts_on t later old new n o mid lasting leads run = record {
-  leads = leads_on mid n o lasting.leads leads;
-  each = λ image since. elim (cases_lt later t) [
-    | inr le ↦ ⊎_elim (λ was. between_to mid n o image leads (lasting.each image was)) (λ b. between_from mid n o image lasting.leads b) (run.before t image le since)
-    | inl lt ↦ between_from mid n o image lasting.leads (run.each image (since_later new later t image (omega (arith, lt)) since))
-  ];
-}
-
--- from a moment on before which all earlier states were over
-lasts_here : (disk : DiskView) (m : Machine) (from t : ℕ) → Rests (IsOwn m) disk.told → AreOver from disk.past → from ≤ t → IsLasting disk m m t
-lasts_here disk m from t rests over le = record {
-  leads = leads_self m;
-  each = λ image since. between_self m image (rests_images m disk.told image rests (only_now disk from image over (since_later disk from t image le since)));
-}
 
 last_of : (answers : List Answer) (answer : Answer) → last_bytes (answers ++ answer ∷ []) ≡ frame_of answer
 last_of [] answer = refl
@@ -153,16 +138,17 @@ module _ (stamped : Bool) (count started turn : ℕ) (m : Machine) (before mid a
         },
       )
 
-  hand_leads : (frame : Frame) (last : Machine) → (last ≡ f.machine) ⊎ Accepts f.machine (entry_of frame) last → Leads f.machine last
-  hand_leads frame last (inl same) = subst (λ (k : Machine). Leads f.machine k) (sym same) (leads_self f.machine)
-  hand_leads frame last (inr accepts) = leads_one f.machine (entry_of frame) last accepts
+  -- the frame's command is in hand
+  hand_next : (frame : Frame) (rest : List ℕ) (last : Machine) → frame_at y.talk.left ≡ Some (frame, rest) → offices.InHand f.machine (Some (entry_of frame)) last → InHand y.talk.left f.machine last
+  hand_next frame rest last front (inl here) = inl here
+  hand_next frame rest last front (inr (entry, e, accepts)) = let told : entry_of frame ≡ entry = cc e in inr (frame, rest, front, subst (λ (x : Entry). Accepts f.machine x last) (sym told) accepts)
 
   -- the disk broke
   pub fed_broken : (frame : Frame) (rest : List ℕ) → count < most → frame_at y.talk.left ≡ Some (frame, rest) → MayBreak turn mid after old frame → z.talk ≡ record y.talk { left = z.talk.left } → IsStill stamped y z
       → (frames : List Frame) × (left : List ℕ) × (bytes : List ℕ) × (moments : List ℕ) × (n : Machine) × (last : Machine) × Answered started before after m x.talk.left frames left bytes moments n last × InHand left n last × (length frames < most) × Sent stamped z.talk.left bytes moments x z
   fed_broken frame rest few front may talk still =
       let b = may f.machine f.stands in
-      let leads = hand_leads frame b.last b.hand in (
+      let leads = hand_leads f.machine (Some (entry_of frame)) b.last b.hand in (
         f.frames,
         y.talk.left,
         f.bytes,
@@ -178,7 +164,7 @@ module _ (stamped : Bool) (count started turn : ℕ) (m : Machine) (before mid a
           leads = f.answered.leads;
           images = run_on started turn before mid after m f.machine b.last le f.answered.leads leads f.answered.images b.run;
         },
-        ⊎_elim (λ here. inl here) (λ accepts. inr (frame, rest, front, accepts)) b.hand,
+        hand_next frame rest b.last front b.hand,
         omega (arith, f.counted, few),
         record {
           talk = talk ∙ ap (λ (k : Talk). record k { left = z.talk.left }) f.sent.talk;

@@ -3,7 +3,7 @@ use Rattle.std.proofs.Common.{◌≡◌, List, ℕ, [], ◌∷◌, ◌++◌, ref
 use Rattle.dmn_desk.specs.declared.answer.Answer.{Answer}
 use Rattle.dmn_frames.specs.Frames.{Frame}
 use Rattle.dmn_registry.specs.Machine.{Machine}
-use Rattle.dmn_feed.specs.Outcome.{IsLasting}
+use Rattle.dmn_office.specs.Lasting.{IsLasting}
 use Rattle.dmn_feed.specs.Serving.{Serves}
 use Rattle.dmn_feed.specs.Laws.{EachFrontIsServed}
 

@@ -2,41 +2,20 @@
 use Rattle.std.proofs.Common.{◌≡◌, inl, inr, ℕ, ◌≤◌, Bool, List, [], refl, sym, ap, subst, arith}
 use Rattle.std.proofs.lemmas.List.{append-nil}
 use Rattle.std.proofs.lemmas.List.Elements.{All-nil}
-use Rattle.dmn_outside.specs.Crashes.{IsKnown, LeavesOnly, Rests}
-use Rattle.dmn_outside.specs.Disk.{AreOver, DiskView, MayLeave, Three, Told, contents, nothing, whole}
+use Rattle.dmn_outside.specs.Crashes.{LeavesOnly}
+use Rattle.dmn_outside.specs.Disk.{DiskView, IfReads, Told}
 use Rattle.dmn_outside.specs.Line.{LineView}
-use Rattle.dmn_outside.proofs.Crash.{joins, started, widened}
+use Rattle.dmn_outside.proofs.Crash.{joins, widened}
 use Rattle.dmn_desk.specs.Texts.{Fits}
 use Rattle.dmn_frames.specs.Frames.{Frame}
-use Rattle.dmn_registry.specs.Machine.{Machine, at_rest}
+use Rattle.dmn_office.specs.Offices.{HasJournal}
+use Rattle.dmn_office.proofs.Opened.{own_between}
+use Rattle.dmn_registry.specs.Machine.{Machine}
 use Rattle.dmn_registry.specs.Own.{IsBetween, IsOwn, Leads}
-use Rattle.dmn_branch.specs.Pins.{no_pins}
-use Rattle.dmn_registry.proofs.Apart.{own_apart}
 use Rattle.dmn_registry.proofs.Between.{between_self, between_to, leads_on, leads_one, leads_self}
-use Rattle.dmn_registry.proofs.Resting.{rests_images}
 use Rattle.dmn_status.specs.declared.status.Status.{Status}
 use Rattle.dmn_status.specs.declared.status.Status.TheVariants as statuses
-use Rattle.dmn_feed.specs.Outcome.{Answered, InHand, IsRunning, Outcome, Sent, entry_of}
-
-known_rests : (P : Three (List ℕ) → Type 0) (told : Told) → IsKnown P told → Rests P told
-known_rests P nothing known = absurd known
-known_rests P (contents c) known = known
-known_rests P (whole w) known = known
-
--- each image of a disk at rest is own of the machine as an opening has it
-own_images : (m : Machine) (told : Told) (image : Three (List ℕ)) → IsKnown (IsOwn m) told → MayLeave told image → IsOwn (at_rest m) image
-own_images m told image known now = own_apart m no_pins image (rests_images m told image (known_rests (IsOwn m) told known) now)
-
--- opening adds no image
-pub opened : (t : ℕ) (old new : DiskView) (m : Machine) → IsKnown (IsOwn m) old.told → LeavesOnly t old new (MayLeave old.told) → LeavesOnly t old new (IsOwn (at_rest m))
-opened t old new m known run = widened t old new _ _ run (λ image now. own_images m old.told image known now)
-
--- there was no memory to begin
-pub lacks_opening : (t : ℕ) (old new : DiskView) (m : Machine) → LeavesOnly t old new (IsOwn (at_rest m)) → LeavesOnly t old new (IsBetween (at_rest m) (at_rest m))
-lacks_opening t old new m run = widened t old new _ _ run (λ image own. between_self (at_rest m) image own)
-
-pub lacks_before : (t : ℕ) (disk : DiskView) (m : Machine) → AreOver t disk.past → IsKnown (IsOwn m) disk.told → LeavesOnly t disk disk (IsBetween (at_rest m) (at_rest m))
-lacks_before t disk m over known = lacks_opening t disk disk m (started t disk (IsOwn (at_rest m)) over (λ image now. own_images m disk.told image known now))
+use Rattle.dmn_feed.specs.Outcome.{Answered, InHand, IsRunning, OpensOn, Outcome, Sent, StopsFor, entry_of}
 
 answered_earlier : (t later : ℕ) (before mid disk : DiskView) (m : Machine) (text : List ℕ) (frames : List Frame) (left bytes moments : List ℕ) (n last : Machine) → t ≤ later → LeavesOnly t before mid (IsOwn m) → Leads n last
     → Answered later mid disk m text frames left bytes moments n last → Answered t before disk m text frames left bytes moments n last
@@ -76,8 +55,33 @@ broken_opening stamped t m before disk old new run same = (
   [],
   m,
   m,
-  record { front = refl; answers = []; serves = (refl, refl); fit = All-nil Fits; bytes_are = refl; leads = leads_self m; images = widened t before disk _ _ run (λ image own. between_self m image own) },
+  record { front = refl; answers = []; serves = (refl, refl); fit = All-nil Fits; bytes_are = refl; leads = leads_self m; images = own_between t before disk m run },
   inl refl,
   omega arith,
   subst (λ (v : LineView). Sent stamped v.talk.left [] [] old v) (sym same) (record { talk = ap (λ (l : List ℕ). record old.talk { sent = l }) (sym (append-nil old.talk.sent)); stamps = λ _. ap (λ (l : List ℕ). record old.moments { sent = l }) (sym (append-nil old.moments.sent)) }),
 )
+
+-- a run behind an opening is over a journal image
+pub opens_run : (status : Status) (told : Told) → IsRunning status → IfReads told HasJournal → OpensOn status told
+opens_run statuses.Done told running has = has
+opens_run statuses.CutInput told running has = has
+opens_run statuses.Enough told running has = has
+opens_run statuses.LineFault told running has = has
+opens_run statuses.DiskFault told running has = tt
+opens_run statuses.Memory told running has = absurd running
+opens_run (statuses.NotJournal place) told running has = absurd running
+opens_run statuses.Words told running has = absurd running
+opens_run (statuses.StartForm place) told running has = absurd running
+opens_run statuses.AlreadyInit told running has = absurd running
+
+pub running_stops : (status : Status) (told : Told) → IsRunning status → StopsFor status told
+running_stops statuses.Done told running = tt
+running_stops statuses.CutInput told running = tt
+running_stops statuses.Enough told running = tt
+running_stops statuses.LineFault told running = tt
+running_stops statuses.DiskFault told running = tt
+running_stops statuses.Memory told running = tt
+running_stops (statuses.NotJournal place) told running = absurd running
+running_stops statuses.Words told running = tt
+running_stops (statuses.StartForm place) told running = tt
+running_stops statuses.AlreadyInit told running = tt

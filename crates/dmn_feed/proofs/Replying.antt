@@ -7,7 +7,7 @@ use Rattle.dmn_desk.specs.declared.answer.ShortAnswer.TheVariants.{Memory}
 use Rattle.dmn_desk.specs.Texts.{Fits, frame_of, is_short, short_body}
 use Rattle.dmn_frames.specs.Frames.{Frame}
 use Rattle.dmn_registry.specs.Machine.{Machine}
-use Rattle.dmn_feed.specs.declared.office.Office.{Office}
+use Rattle.dmn_office.specs.declared.office.Office.{Office}
 use Rattle.dmn_feed.specs.Serving.{MayAnswer}
 use Rattle.dmn_feed.specs.Steps.{MayServe, RepliesTo}
 use Rattle.dmn_feed.proofs.Growing.{answer_grows}

@@ -20,9 +20,11 @@ use Rattle.dmn_frames.specs.Room.{SpendsSent}
 use Rattle.dmn_frames.specs.Steps.{Headed}
 use Rattle.dmn_frames.specs.declared.reading.Reading.{Reading}
 use Rattle.dmn_registry.specs.Machine.{Machine}
-use Rattle.dmn_feed.specs.declared.office.Office.{Office}
-use Rattle.dmn_feed.specs.Offices.{Decides}
-use Rattle.dmn_feed.specs.Outcome.{IsLasting}
+use Rattle.dmn_registry.specs.Snapshots.{HasRoomForSnapshot, SnapshotsFit}
+use Rattle.dmn_registry.specs.declared.registry.Registry.{Registry}
+use Rattle.dmn_office.specs.declared.office.Office.{Office}
+use Rattle.dmn_feed.specs.Bodies.{Decides}
+use Rattle.dmn_office.specs.Lasting.{IsLasting}
 use Rattle.dmn_feed.specs.Room.{AsksSurely, HasPlaceBody, HasPlaceKept, HasPlaceNext, MayBeServed, Suffices}
 use Rattle.dmn_feed.specs.Serving.{MayAnswer}
 use Rattle.dmn_feed.specs.Steps.{Turned, some_of}
@@ -58,6 +60,10 @@ next_place kind size x h end room now head same next enough form =
     let fit = next (record { kind = kind; body = take size h.left }) (drop size h.left) (head.frame ∙ rw (le-ltb (length h.left) size enough) refl) form in
     omega (arith, fit, same)
 
+-- a snapshot has its place on a disk that is the same
+pub snaps_there : (registry : Registry) (d e : DiskView) → e ≡ d → HasRoomForSnapshot registry d.room → HasRoomForSnapshot registry e.room
+snaps_there registry d e same place = subst (λ (v : DiskView). HasRoomForSnapshot registry v.room) (sym same) place
+
 -- ---- the loop
 
 all_free : (n : ℕ) → All (λ (t : ℕ). Unit {0}) (replicate n 0)
@@ -87,6 +93,10 @@ module _ (stamped : Bool) (count started : ℕ) (m : Machine) (before mid : Disk
   holds_next p d enough k frame after front form =
       let fit = enough.keeps f.frames y.talk.left f.answered.answers f.machine served frame after front form in
       omega (arith, fit, k.room, f.stands.registry.registry_stands.end)
+
+  -- and so has a snapshot
+  pub snaps_next : (p : ℕ) (d : DiskView) → Suffices m p d.room x.talk.left → KeepsDisk d mid → HasRoomForSnapshot office.registry mid.room
+  snaps_next p d enough k = (f.machine, f.stands.registry.registry_stands, subst (λ (n : ℕ). SnapshotsFit f.machine n) (sym k.room) (enough.snapshots f.frames y.talk.left f.answered.answers f.machine served))
 
   -- and each answer fits what is left of it
   pub never_lacks : (turn p q r : ℕ) (after : DiskView) (new : Office) (answer : Answer) (left : List ℕ) → SpendsSent p q x y → Suffices m p r x.talk.left → Turned turn mid after office answer new y.talk.left left → q < length (frame_of answer) → ⊥

@@ -1,27 +1,20 @@
--- An office answers as the machine that it stands for, and leaves what is own of it.
-use Rattle.std.proofs.Common.{◌≡◌, ◌⊎◌, inl, inr, ⊎_elim, ℕ, ◌+◌, ◌-◌, ◌<◌, ◌≤◌, ◌==◌, true, false, List, [], length, take, drop, refl, sym, ap, subst, ◌∙◌, arith}
+-- A frame is answered as the request that it is, by what is kept of its body.
+use Rattle.std.proofs.Common.{◌≡◌, ◌⊎◌, inl, inr, ℕ, ◌+◌, ◌-◌, ◌<◌, ◌≤◌, ◌==◌, true, false, List, [], length, take, drop, refl, sym, ap, subst, ◌∙◌, arith}
 use Rattle.std.specs.Prelude.{Option, None, Some, Result, Ok, Err}
 use Rattle.std.proofs.lemmas.Bool.{cases_lt, eqb-true, le-ltb, lt-ltb}
 use Rattle.std.proofs.lemmas.List.{length-take, take_all}
 use Rattle.dmn_block.specs.Body.{connect_body}
-use Rattle.dmn_block.specs.Defs.{IsBlock, IsBlockText, most_items}
+use Rattle.dmn_block.specs.Defs.{most_items}
 use Rattle.dmn_block.specs.Frames.{frame_of}
 use Rattle.dmn_block.specs.declared.body.ConnectBody.{ConnectBody}
 use Rattle.dmn_bytes.specs.Format.{◌>>=◌}
 use Rattle.dmn_bytes.specs.declared.fault.Departure.TheVariants.{Form}
 use Rattle.dmn_block.specs.declared.frame.BlockFrame.{BlockFrame}
-use Rattle.dmn_block.specs.declared.refusal.Refusal.{Refusal}
-use Rattle.dmn_branch.specs.Machine as blocks
-use Rattle.dmn_branch.specs.Machine.{Command, Connect, Disconnect, MachineState}
-use Rattle.dmn_branch.specs.declared.fault.DisconnectRefusal.{DisconnectRefusal}
-use Rattle.dmn_branch.specs.Pins.{Pins}
 use Rattle.dmn_bytes.specs.declared.fault.Departure.{Departure}
 use Rattle.dmn_bytes.specs.declared.hash.Hash256.{Hash256}
 use Rattle.dmn_bytes.specs.Law.{place_of}
-use Rattle.dmn_outside.specs.Crashes.{LeavesOnly}
 use Rattle.dmn_outside.specs.Disk.{AreOver, DiskView}
 use Rattle.dmn_outside.specs.declared.device.DiskFault.{DiskFault}
-use Rattle.dmn_outside.proofs.Crash.{widened}
 use Rattle.dmn_journal.specs.Journal.{Entry, size_of_record}
 use Rattle.dmn_journal.specs.Reading.{entry_departs}
 use Rattle.dmn_desk.specs.declared.answer.Answer.{Answer}
@@ -31,28 +24,23 @@ use Rattle.dmn_desk.specs.declared.kind.Kind.{Kind}
 use Rattle.dmn_desk.specs.declared.kind.Kind.TheVariants as kinds
 use Rattle.dmn_desk.specs.declared.request.Request.{Request}
 use Rattle.dmn_desk.specs.declared.request.Request.TheVariants as requests
-use Rattle.dmn_desk.specs.Ask.{answer_of, answered, ask, asked_by, asked_kind, connect, connected, disconnect, disconnected, not_connected, not_disconnected, pin, pinned_by, release, shortly}
-use Rattle.dmn_desk.specs.Asked.{Answers, HasRoom, IsIdle, MayHold, OrMemory, entry_by}
+use Rattle.dmn_desk.specs.Ask.{answer_of, answered, ask, asked_by, asked_kind, pin}
+use Rattle.dmn_desk.specs.Asked.{HasRoom, OrMemory, entry_by}
 use Rattle.dmn_desk.specs.Kinds.{kind_of, reading_of, takes_no_memory}
-use Rattle.dmn_desk.specs.Requests.{IsRequest, kind_by, request_of}
-use Rattle.dmn_desk.specs.declared.desk.Desk.{Desk}
-use Rattle.dmn_registry.specs.declared.registry.Registry.{Registry}
-use Rattle.dmn_branch.specs.Pins.{free_number, pin_of}
+use Rattle.dmn_desk.specs.Requests.{kind_by, request_of}
 use Rattle.std.specs.Prelude.{Bool, is_some, if◌then◌else◌, nat_lt}
-use Rattle.dmn_branch.specs.Machine.{is_held}
-use Rattle.dmn_registry.specs.Machine.{state_of}
 use Rattle.dmn_desk.proofs.Bodies.{front_decides, kind_of_request}
 use Rattle.dmn_frames.specs.Reading.{kept_of}
 use Rattle.dmn_frames.specs.declared.limits.TheConstants.{FRONT, LONGEST_BODY}
 use Rattle.dmn_frames.specs.declared.reading.Reading.{Reading}
 use Rattle.dmn_frames.specs.declared.reading.Reading.TheVariants.{Nothing, Whole}
-use Rattle.dmn_registry.specs.Machine as registries
-use Rattle.dmn_registry.specs.Machine.{Accepts, Denial, Machine, Verdict, by_answer, by_command, connecting, denied, disconnecting, formless, taken, verdict, with_pins}
-use Rattle.dmn_registry.proofs.Blocks.{body_form, connect_command, connect_form, disconnect_command, disconnect_form}
-use Rattle.dmn_registry.specs.Own.{IsBetween, IsOwn, Leads, OwnWith, StandsOn}
-use Rattle.dmn_registry.proofs.Between.{between_command, between_refused, between_self, between_to, earlier, leads_one, leads_pins, leads_self, unmoved}
-use Rattle.dmn_feed.specs.declared.office.Office.{Office}
-use Rattle.dmn_feed.specs.Offices.{Breaks, Decides, GoesOn, Gives, StandsAt}
+use Rattle.dmn_registry.specs.Machine.{Machine, connecting, disconnecting}
+use Rattle.dmn_registry.proofs.Blocks.{body_form, connect_form, disconnect_form}
+use Rattle.dmn_office.specs.declared.office.Office.{Office}
+use Rattle.dmn_office.specs.Offices as offices
+use Rattle.dmn_office.specs.Offices.{InHand}
+use Rattle.dmn_office.proofs.Moving.{breaks_earlier, goes_earlier, stands_still, stays}
+use Rattle.dmn_feed.specs.Bodies.{Decides, Gives}
 use Rattle.dmn_feed.specs.Room.{HasPlace}
 use Rattle.dmn_feed.specs.Steps.{Asks, MayBreak, MayServe, some_of}
 use Rattle.dmn_outside.specs.Line.{Talk}
@@ -166,142 +154,6 @@ kind_decided number size kind is = record {
   entry = λ fits body form. entry_whole number kind body is form;
 }
 
--- ---- commands
-
-connect_accepts : (m : Machine) (block : BlockFrame) (body : List ℕ) (n : Machine) → IsBlock block → IsBlockText body block → length body ≤ most_items → registries.connect m block body ≡ Ok n → Accepts m (connecting body) n
-unfolding verdict
-connect_accepts m block body n sound text fits is = record {
-  form = connect_form body fits;
-  is = ap (λ (c : Result Command Departure). by_command m (connecting body) c) (connect_command (connecting body) block refl text sound.ids) ∙ ap by_answer is;
-}
-
-disconnect_accepts : (m : Machine) (hash : Hash256) (n : Machine) → length hash.0 ≡ 32 → registries.disconnect m hash ≡ Ok n → Accepts m (disconnecting hash) n
-unfolding verdict
-disconnect_accepts m hash n long is = record {
-  form = disconnect_form hash long;
-  is = ap (λ (c : Result Command Departure). by_command m (disconnecting hash) c) (disconnect_command (disconnecting hash) (λ one. absurd (cc one))) ∙ ap by_answer is;
-}
-
--- ---- from the machine before an answer to the one after it
-
-leads_same : (m n : Machine) → n ≡ m → Leads m n
-leads_same m n same = subst (λ (k : Machine). Leads m k) (sym same) (leads_self m)
-
-leads_by_pins : (m n : Machine) (pins : Pins) → n ≡ with_pins m pins → Leads m n
-leads_by_pins m n pins same = subst (λ (k : Machine). Leads m k) (sym same) (leads_pins m pins)
-
--- what an answer to a command is: the machine with its entry; or the machine, and the disk was not called
-abbrev Commands : Machine → Entry → Answer → Machine → Type 0
-Commands m entry answer n = Accepts m entry n ⊎ ((n ≡ m) × IsIdle (Ok answer))
-
-idle_denial : (denial : Denial Refusal) → IsIdle (Ok (Short (not_connected denial)))
-idle_denial (registries.by_rules refusal) = tt
-idle_denial registries.full = tt
-
-connect_by_result : (m : Machine) (entry : Entry) (answer : Answer) (n : Machine) (r : Result Machine (Denial Refusal)) → ((k : Machine) → r ≡ Ok k → Accepts m entry k) → shortly (connected m r) ≡ (answer, n) → Commands m entry answer n
-connect_by_result m entry answer n (Ok next) accepts is = inl (subst (λ (k : Machine). Accepts m entry k) (ap (λ (p : Answer × Machine). p.1) is) (accepts next refl))
-connect_by_result m entry answer n (Err denial) accepts is = inr (sym (ap (λ (p : Answer × Machine). p.1) is), subst (λ (a : Answer). IsIdle (Ok a)) (ap (λ (p : Answer × Machine). p.0) is) (idle_denial denial))
-
-idle_back : (denial : Denial DisconnectRefusal) → IsIdle (Ok (Short (not_disconnected denial)))
-idle_back (registries.by_rules (Rattle.dmn_branch.specs.declared.fault.DisconnectRefusal.TheVariants.NotTip tip)) = tt
-idle_back (registries.by_rules Rattle.dmn_branch.specs.declared.fault.DisconnectRefusal.TheVariants.AtStart) = tt
-idle_back (registries.by_rules (Rattle.dmn_branch.specs.declared.fault.DisconnectRefusal.TheVariants.TooDeep floor)) = tt
-idle_back registries.full = tt
-
-back_by_result : (m : Machine) (entry : Entry) (answer : Answer) (n : Machine) (r : Result Machine (Denial DisconnectRefusal)) → ((k : Machine) → r ≡ Ok k → Accepts m entry k) → shortly (disconnected m r) ≡ (answer, n) → Commands m entry answer n
-back_by_result m entry answer n (Ok next) accepts is = inl (subst (λ (k : Machine). Accepts m entry k) (ap (λ (p : Answer × Machine). p.1) is) (accepts next refl))
-back_by_result m entry answer n (Err denial) accepts is = inr (sym (ap (λ (p : Answer × Machine). p.1) is), subst (λ (a : Answer). IsIdle (Ok a)) (ap (λ (p : Answer × Machine). p.0) is) (idle_back denial))
-
-connect_commands : (m : Machine) (block : BlockFrame) (body : List ℕ) (answer : Answer) (n : Machine) → IsBlock block → IsBlockText body block → length body ≤ most_items → ask m (requests.Connect block body) ≡ (answer, n) → Commands m (connecting body) answer n
-unfolding ask connect
-connect_commands m block body answer n sound text fits is = connect_by_result m (connecting body) answer n (registries.connect m block body) (λ k e. connect_accepts m block body k sound text fits e) is
-
-back_commands : (m : Machine) (hash : Hash256) (answer : Answer) (n : Machine) → length hash.0 ≡ 32 → ask m (requests.Disconnect hash) ≡ (answer, n) → Commands m (disconnecting hash) answer n
-unfolding ask disconnect
-back_commands m hash answer n long is = back_by_result m (disconnecting hash) answer n (registries.disconnect m hash) (λ k e. disconnect_accepts m hash k long e) is
-
-pin_by_number : (m : Machine) (height : ℕ) (held : Bool) (number : Option ℕ) (answer : Answer) (n : Machine)
-    → shortly (if held then pinned_by m height number else (short.NotHeld (Rattle.dmn_branch.specs.Machine.low (state_of m)) (Rattle.dmn_branch.specs.Machine.tip (state_of m)).height, m)) ≡ (answer, n) → Leads m n
-pin_by_number m height true (Some number) answer n is = leads_by_pins m n _ (sym (ap (λ (p : Answer × Machine). p.1) is))
-pin_by_number m height true None answer n is = leads_same m n (sym (ap (λ (p : Answer × Machine). p.1) is))
-pin_by_number m height false number answer n is = leads_same m n (sym (ap (λ (p : Answer × Machine). p.1) is))
-
-pin_leads : (m : Machine) (height : ℕ) (answer : Answer) (n : Machine) → ask m (requests.Pin height) ≡ (answer, n) → Leads m n
-unfolding ask pin
-pin_leads m height answer n is = pin_by_number m height (is_held (state_of m) height) (free_number m.pins) answer n is
-
-release_by : (m : Machine) (number : ℕ) (live : Bool) (answer : Answer) (n : Machine) → shortly (if live then (short.Released, registries.released m number) else (short.PinUnknown, m)) ≡ (answer, n) → Leads m n
-release_by m number true answer n is = leads_by_pins m n _ (sym (ap (λ (p : Answer × Machine). p.1) is))
-release_by m number false answer n is = leads_same m n (sym (ap (λ (p : Answer × Machine). p.1) is))
-
-release_leads : (m : Machine) (number : ℕ) (answer : Answer) (n : Machine) → ask m (requests.Release number) ≡ (answer, n) → Leads m n
-unfolding ask release
-release_leads m number answer n is = release_by m number (is_some (pin_of m.pins number)) answer n is
-
--- a request that is no command leads to a machine with other pins
-question_leads : (m : Machine) (request : Request) (answer : Answer) (n : Machine) → entry_by request ≡ None → ask m request ≡ (answer, n) → Leads m n
-unfolding ask
-question_leads m (requests.Connect block body) answer n none is = absurd (cc none)
-question_leads m (requests.Disconnect hash) answer n none is = absurd (cc none)
-question_leads m requests.Tip answer n none is = leads_same m n (sym (ap (λ (p : Answer × Machine). p.1) is))
-question_leads m (requests.List height) answer n none is = leads_same m n (sym (ap (λ (p : Answer × Machine). p.1) is))
-question_leads m (requests.Row height hash) answer n none is = leads_same m n (sym (ap (λ (p : Answer × Machine). p.1) is))
-question_leads m (requests.Payees height count) answer n none is = leads_same m n (sym (ap (λ (p : Answer × Machine). p.1) is))
-question_leads m (requests.Members kind base) answer n none is = leads_same m n (sym (ap (λ (p : Answer × Machine). p.1) is))
-question_leads m (requests.Quorums height) answer n none is = leads_same m n (sym (ap (λ (p : Answer × Machine). p.1) is))
-question_leads m (requests.Pin height) answer n none is = pin_leads m height answer n is
-question_leads m (requests.Page number from count) answer n none is = leads_same m n (sym (ap (λ (p : Answer × Machine). p.1) is))
-question_leads m (requests.Release number) answer n none is = release_leads m number answer n is
-question_leads m (requests.Diff base block) answer n none is = leads_same m n (sym (ap (λ (p : Answer × Machine). p.1) is))
-
-hand_leads : (m last : Machine) (entry : Entry) → (last ≡ m) ⊎ Accepts m entry last → Leads m last
-hand_leads m last entry (inl same) = leads_same m last same
-hand_leads m last entry (inr accepts) = leads_one m entry last accepts
-
--- ---- what a crash leaves of an answer
-
--- nothing was done
-pub stays : (t : ℕ) (before after : DiskView) (m : Machine) (office : Office) → AreOver t before.past → after ≡ before → StandsAt office m before.told → GoesOn t before after m m office
-stays t before after m office over same stands = record {
-  stands = subst (λ (d : DiskView). StandsAt office m d.told) (sym same) stands;
-  leads = leads_self m;
-  run = unmoved t before after m over stands.registry.disk same;
-}
-
--- what an answer that is defined, or Memory, leads to
-record Moved (t : ℕ) (before after : DiskView) (m n : Machine) : Type 0 where
-  leads : Leads m n
-  run : LeavesOnly t before after (IsBetween m n)
-
-unmoved_to : (t : ℕ) (before after : DiskView) (m n : Machine) (registry : Registry) → AreOver t before.past → StandsOn registry m before.told → after ≡ before → Leads m n → Moved t before after m n
-unmoved_to t before after m n registry over stands same leads = record { leads = leads; run = widened t before after _ _ (unmoved t before after m over stands.disk same) (λ image b. between_to m m n image leads b) }
-
-module _ (t : ℕ) (before after : DiskView) (m n : Machine) (registry : Registry) (over : AreOver t before.past) (stands : StandsOn registry m before.told) where
-  command_moved : (entry : Entry) (answer : Answer) → LeavesOnly t before after (OwnWith m entry) → (IsIdle (Ok answer) → after ≡ before) → Commands m entry answer n → Moved t before after m n
-  command_moved entry answer run idle (inl accepts) = record { leads = leads_one m entry n accepts; run = widened t before after _ _ run (λ image own. between_command m entry n image accepts own) }
-  command_moved entry answer run idle (inr (same, still)) = unmoved_to t before after m n registry over stands (idle still) (leads_same m n same)
-
-  question_moved : LeavesOnly t before after (IsOwn m) → Leads m n → Moved t before after m n
-  question_moved run leads = record { leads = leads; run = widened t before after _ _ run (λ image own. between_to m m n image leads (between_self m image own)) }
-
-  memory_moved : (answer : Answer) → answer ≡ Short short.Memory → n ≡ m → (IsIdle (Ok answer) → after ≡ before) → Moved t before after m n
-  memory_moved answer is same idle = unmoved_to t before after m n registry over stands (idle (subst (λ (a : Answer). IsIdle (Ok a)) (sym is) tt)) (leads_same m n same)
-
-  asked_moved : (request : Request) (answer : Answer) → IsRequest request → ((block : BlockFrame) (body : List ℕ) → request ≡ requests.Connect block body → length body ≤ most_items) → ((hash : Hash256) → request ≡ requests.Disconnect hash → length hash.0 ≡ 32)
-      → LeavesOnly t before after (MayHold m (entry_by request)) → (IsIdle (Ok answer) → after ≡ before) → ask m request ≡ (answer, n) → Moved t before after m n
-  asked_moved (requests.Connect block body) answer sound short_body long run idle is = command_moved (connecting body) answer run idle (connect_commands m block body answer n sound.0 sound.1 (short_body block body refl) is)
-  asked_moved (requests.Disconnect hash) answer sound short_body long run idle is = command_moved (disconnecting hash) answer run idle (back_commands m hash answer n (long hash refl) is)
-  asked_moved requests.Tip answer sound short_body long run idle is = question_moved run (question_leads m requests.Tip answer n refl is)
-  asked_moved (requests.List height) answer sound short_body long run idle is = question_moved run (question_leads m (requests.List height) answer n refl is)
-  asked_moved (requests.Row height hash) answer sound short_body long run idle is = question_moved run (question_leads m (requests.Row height hash) answer n refl is)
-  asked_moved (requests.Payees height count) answer sound short_body long run idle is = question_moved run (question_leads m (requests.Payees height count) answer n refl is)
-  asked_moved (requests.Members kind base) answer sound short_body long run idle is = question_moved run (question_leads m (requests.Members kind base) answer n refl is)
-  asked_moved (requests.Quorums height) answer sound short_body long run idle is = question_moved run (question_leads m (requests.Quorums height) answer n refl is)
-  asked_moved (requests.Pin height) answer sound short_body long run idle is = question_moved run (question_leads m (requests.Pin height) answer n refl is)
-  asked_moved (requests.Page number from count) answer sound short_body long run idle is = question_moved run (question_leads m (requests.Page number from count) answer n refl is)
-  asked_moved (requests.Release number) answer sound short_body long run idle is = question_moved run (question_leads m (requests.Release number) answer n refl is)
-  asked_moved (requests.Diff base block) answer sound short_body long run idle is = question_moved run (question_leads m (requests.Diff base block) answer n refl is)
-
 -- ---- by what was kept of a body
 
 back_test : (more : Bool) (d : Departure) (bytes : List ℕ) (hash : Hash256) → if◌then◌else◌ {A = Result Request Departure} more (Err d) (Ok (requests.Disconnect (record { 0 = bytes }))) ≡ Ok (requests.Disconnect hash) → (more ≡ false) × (bytes ≡ hash.0)
@@ -376,30 +228,7 @@ number_is number kind known =
 some_entry : (a b : Entry) → Some a ≡ Some b → a ≡ b
 some_entry a b is = cc
 
--- an entry is in a record's form, or not
-form_by : (o : Option ℕ) → (o ≡ None) ⊎ (o ≡ None → ⊥)
-form_by None = inl refl
-form_by (Some place) = inr (λ is. cc)
-
-form_of : (entry : Entry) → (entry_departs entry ≡ None) ⊎ (entry_departs entry ≡ None → ⊥)
-form_of entry = form_by (entry_departs entry)
-
-broken : (t : ℕ) (before after : DiskView) (m : Machine) (entry : Entry) (v : Verdict) → verdict m entry ≡ v → LeavesOnly t before after (OwnWith m entry) → Breaks t before after m entry
-broken t before after m entry (taken n) is run = elim (form_of entry) [
-  | inl form ↦
-      let accepts : Accepts m entry n = record { form = form; is = is } in
-      record { last = n; hand = inr accepts; run = widened t before after _ _ run (λ image own. between_command m entry n image accepts own) }
-  | inr misform ↦ record { last = m; hand = inl refl; run = widened t before after _ _ run (λ image own. between_refused m entry image (λ k accepts. misform accepts.form) own) }
-]
-broken t before after m entry denied is run = record { last = m; hand = inl refl; run = widened t before after _ _ run (λ image own. between_refused m entry image (λ n accepts. let wrong : denied ≡ taken n = sym is ∙ accepts.is in cc) own) }
-broken t before after m entry (formless place) is run = record { last = m; hand = inl refl; run = widened t before after _ _ run (λ image own. between_refused m entry image (λ n accepts. let wrong : formless place ≡ taken n = sym is ∙ accepts.is in cc) own) }
-
-broken_with : (t : ℕ) (before after : DiskView) (m : Machine) (entry : Entry) (found : Option Entry) → ((e : Entry) → found ≡ Some e → e ≡ entry) → LeavesOnly t before after (MayHold m found) → Breaks t before after m entry
-broken_with t before after m entry None same run = record { last = m; hand = inl refl; run = widened t before after _ _ run (λ image own. between_self m image own) }
-broken_with t before after m entry (Some e) same run = broken t before after m entry (verdict m entry) refl (subst (λ (x : Entry). LeavesOnly t before after (OwnWith m x)) (same e refl) run)
-
-module _ (number size : ℕ) (kept : List ℕ) (kind : Kind) (request : Request) (t : ℕ) (before after : DiskView) (old next : Desk) (registry behind : Registry) (fits : size ≤ LONGEST_BODY) (few : length kept ≤ size) (known : kind_of number ≡ Some kind) (is : request_of kind kept ≡ Ok request) (sound : IsRequest request)
-    (over : AreOver t before.past) where
+module _ (number size : ℕ) (kept : List ℕ) (kind : Kind) (request : Request) (t : ℕ) (before after : DiskView) (old new : Office) (fits : size ≤ LONGEST_BODY) (few : length kept ≤ size) (known : kind_of number ≡ Some kind) (is : request_of kind kept ≡ Ok request) where
   short_body : (block : BlockFrame) (body : List ℕ) → request ≡ requests.Connect block body → length body ≤ most_items
   short_body block body e =
       let k : kinds.Connect ≡ kind = rw e at (kind_of_request kind kept request is) in
@@ -410,26 +239,6 @@ module _ (number size : ℕ) (kept : List ℕ) (kind : Kind) (request : Request)
   long_hash hash e =
       let k : kinds.Disconnect ≡ kind = rw e at (kind_of_request kind kept request is) in
       (disconnect_read kept hash (subst (λ (r : Request). request_of kinds.Disconnect kept ≡ Ok r) e (subst (λ (c : Kind). request_of c kept ≡ Ok request) (sym k) is))).1
-
-  -- the desk's answer
-  request_gives : (answer : Answer) → Answers request (Ok answer) old next registry behind before.told after.told → ((m : Machine) → StandsOn registry m before.told → LeavesOnly t before after (MayHold m (entry_by request))) → (IsIdle (Ok answer) → after ≡ before)
-      → Gives (Ok answer) number size kept t before after (record { desk = old; registry = registry }) (record { desk = next; registry = behind })
-  request_gives answer answers moments idle m stands =
-      let a = answers m stands.registry stands.desk in
-      let same = asked_request number size kept kind request m fits known is in
-      let k : kind_by request ≡ kind = kind_of_request kind kept request is in
-      let never : takes_no_memory (Some (kind_by request)) ≡ takes_no_memory (kind_of number) = ap (λ (c : Kind). takes_no_memory (Some c)) k ∙ ap takes_no_memory (sym known) in
-      let moved : Moved t before after m a.0 = elim a.3 [
-        | inl defined ↦ asked_moved t before after m a.0 registry over stands.registry request answer sound short_body long_hash (moments m stands.registry) idle defined
-        | inr free ↦ memory_moved t before after m a.0 registry over stands.registry answer free.1 free.2 idle
-      ] in (
-        a.0,
-        elim a.3 [
-          | inl defined ↦ inl (same ∙ defined)
-          | inr free ↦ inr (sym never ∙ free.0, free.1, free.2)
-        ],
-        record { stands = record { registry = a.1; desk = a.2 }; leads = moved.leads; run = moved.run },
-      )
 
   entry_is : (entry : Entry) → entry_by request ≡ Some entry → entry ≡ record { kind = number; body = kept }
   entry_is entry e = entry_of_request request entry (kind_of_request kind kept request is) is e
@@ -479,14 +288,30 @@ module _ (number size : ℕ) (kept : List ℕ) (kind : Kind) (request : Request)
       by_request (requests.Release pin) e = tt
       by_request (requests.Diff base block) e = tt
 
-  -- the disk failed
-  request_breaks : (fault : DiskFault) → ((m : Machine) → StandsOn registry m before.told → LeavesOnly t before after (MayHold m (entry_by request))) → Gives (Err fault) number size kept t before after (record { desk = old; registry = registry }) (record { desk = next; registry = behind })
-  request_breaks fault moments = (fits, λ m stands. broken_with t before after m (record { kind = number; body = kept }) (entry_by request) entry_is (moments m stands.registry))
+  -- a command in hand is the frame's
+  hand_is : (m last : Machine) → InHand m (entry_by request) last → InHand m (Some (record { kind = number; body = kept })) last
+  hand_is m last (inl same) = inl same
+  hand_is m last (inr (entry, is_entry, accepts)) = inr (entry, ap (λ (e : Entry). Some e) (sym (entry_is entry is_entry)), accepts)
 
-  pub request_does : (r : Result Answer DiskFault) → Answers request r old next registry behind before.told after.told → ((m : Machine) → StandsOn registry m before.told → LeavesOnly t before after (MayHold m (entry_by request))) → (IsIdle r → after ≡ before)
-      → Gives r number size kept t before after (record { desk = old; registry = registry }) (record { desk = next; registry = behind })
-  request_does (Ok answer) answers moments idle = request_gives answer answers moments idle
-  request_does (Err fault) answers moments idle = request_breaks fault moments
+  pub request_does : (r : Result Answer DiskFault) → offices.Gives r request t before after old new → Gives r number size kept t before after old new
+  request_does (Ok answer) gives = λ m stands.
+      let s = gives m stands in
+      let same = asked_request number size kept kind request m fits known is in
+      let k : kind_by request ≡ kind = kind_of_request kind kept request is in
+      let never : takes_no_memory (Some (kind_by request)) ≡ takes_no_memory (kind_of number) = ap (λ (c : Kind). takes_no_memory (Some c)) k ∙ ap takes_no_memory (sym known) in (
+        s.0,
+        elim s.1 [
+          | inl defined ↦ inl (same ∙ defined)
+          | inr free ↦ inr (sym never ∙ free.0, free.1, free.2)
+        ],
+        s.2,
+      )
+  request_does (Err fault) gives = (
+    fits,
+    λ m stands.
+        let b = gives m stands in
+        record { last = b.last; hand = hand_is m b.last b.hand; run = b.run },
+  )
 
 -- ---- what needs no request
 
@@ -515,24 +340,27 @@ module _ (t later : ℕ) (before mid after : DiskView) (old new : Office) (readi
   -- what was done by what was kept of a body is done with the frame
   does_answer : (answer : Answer) → Gives (Ok answer) kind size kept later mid after old new → MayServe t before after old (record { kind = kind; body = body }) answer new
   does_answer answer gives m stands =
-      let s = gives m (subst (λ (d : DiskView). StandsAt old m d.told) (sym same) stands) in
+      let s = gives m (stands_still before mid m old same stands) in
       let so : answer_of m kind body ≡ answered m kind size kept = decides.same m body long ∙ ap (answered m kind size) (sym is) in (
         s.0,
         subst (λ (p : Answer × Machine). OrMemory (Short short.Memory) (takes_no_memory (kind_of kind)) p m answer s.0) (sym so) s.1,
-        record { stands = s.2.stands; leads = s.2.leads; run = earlier t later before after m s.0 le over stands.registry.disk (subst (λ (d : DiskView). LeavesOnly later d after (IsBetween m s.0)) same s.2.run) s.2.leads },
+        goes_earlier t later before mid after m old le over same stands s.0 new s.2,
       )
 
   whole_kept : size ≤ LONGEST_BODY → entry_departs (record { kind = kind; body = kept }) ≡ None → kept ≡ body
   whole_kept fits form = is ∙ decides.entry fits body (subst (λ (l : List ℕ). entry_departs (record { kind = kind; body = l }) ≡ None) is form)
 
+  hand_whole : (m last : Machine) → size ≤ LONGEST_BODY → InHand m (Some (record { kind = kind; body = kept })) last → InHand m (Some (record { kind = kind; body = body })) last
+  hand_whole m last fits (inl here) = inl here
+  hand_whole m last fits (inr (entry, e, accepts)) =
+      let told : record { kind = kind; body = kept } ≡ entry = some_entry (record { kind = kind; body = kept }) entry e in
+      let all : kept ≡ body = whole_kept fits (subst (λ (x : Entry). entry_departs x ≡ None) (sym told) accepts.form) in
+      inr (entry, ap (λ (l : List ℕ). Some (record { kind = kind; body = l })) (sym all) ∙ e, accepts)
+
   does_break : (fault : DiskFault) → Gives (Err fault) kind size kept later mid after old new → MayBreak t before after old (record { kind = kind; body = body })
   does_break fault gives m stands =
-      let b = gives.1 m (subst (λ (d : DiskView). StandsAt old m d.told) (sym same) stands) in
-      record {
-        last = b.last;
-        hand = ⊎_elim (λ here. inl here) (λ accepts. inr (subst (λ (l : List ℕ). Accepts m (record { kind = kind; body = l }) b.last) (whole_kept gives.0 accepts.form) accepts)) b.hand;
-        run = earlier t later before after m b.last le over stands.registry.disk (subst (λ (d : DiskView). LeavesOnly later d after (IsBetween m b.last)) same b.run) (hand_leads m b.last (record { kind = kind; body = kept }) b.hand);
-      }
+      let b = breaks_earlier t later before mid after m old le over same stands (Some (record { kind = kind; body = kept })) (gives.1 m (stands_still before mid m old same stands)) in
+      record { last = b.last; hand = hand_whole m b.last gives.0 b.hand; run = b.run }
 
 pub asked_does : (r : Result Answer DiskFault) (t later : ℕ) (before mid after : DiskView) (old new : Office) (reading : Reading) (kind size : ℕ) (kept : List ℕ) (x y : Talk) → t ≤ later → AreOver t before.past → mid ≡ before → Decides reading kind size → Took size x y → kept ≡ kept_of reading (take size x.left)
     → Gives r kind size kept later mid after old new → Asks (some_of r) t before after old kind size new x y

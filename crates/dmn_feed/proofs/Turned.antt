@@ -1,12 +1,11 @@
 -- A frame that is taken and answered.
-use Rattle.std.proofs.Common.{◌≡◌, ◌⊎◌, inl, inr, ℕ, ◌-◌, ◌≤◌, ◌<◌, Bool, true, false, List, [], ◌∷◌, ◌++◌, length, take, drop, replicate, zero, suc, refl, sym, ap, subst, ◌∙◌, arith, append_assoc}
+use Rattle.std.proofs.Common.{◌≡◌, inl, inr, ℕ, ◌-◌, ◌≤◌, ◌<◌, Bool, true, false, List, [], ◌∷◌, ◌++◌, length, take, drop, replicate, zero, suc, refl, sym, ap, ◌∙◌, arith, append_assoc}
 use Rattle.std.specs.Prelude.{Some, Ok, Err}
 use Rattle.std.specs.List.{All}
 use Rattle.std.proofs.lemmas.Bool.{le-ltb}
 use Rattle.std.proofs.lemmas.List.{length-append, length-replicate}
 use Rattle.std.proofs.lemmas.List.Elements.{All-append, All-nil, All-push, All-weaker}
 use Rattle.dmn_outside.specs.Counts.{IsBetween as IsBetweenMoments}
-use Rattle.dmn_outside.specs.Crashes.{LeavesOnly}
 use Rattle.dmn_outside.specs.Disk.{AreOver, DiskView}
 use Rattle.dmn_outside.specs.Line.{LineView, Moments, Talk}
 use Rattle.dmn_outside.specs.Pieces.{SentFront, StampsAfter, Took}
@@ -15,34 +14,25 @@ use Rattle.dmn_desk.specs.Texts.{Fits, frame_of}
 use Rattle.dmn_frames.specs.Frames.{Frame, frame_at}
 use Rattle.dmn_frames.specs.Steps.{Headed}
 use Rattle.dmn_frames.proofs.Turns.{faulted_within, sent_part, sent_whole}
-use Rattle.dmn_registry.specs.Machine.{Machine}
-use Rattle.dmn_registry.specs.Own.{IsBetween, Leads}
-use Rattle.dmn_registry.proofs.Between.{earlier, leads_one, leads_self}
-use Rattle.dmn_registry.specs.Machine.{Accepts}
 use Rattle.dmn_feed.specs.declared.asking.Stop.{Stop}
 use Rattle.dmn_feed.specs.declared.asking.Stop.TheVariants as stops
 use Rattle.dmn_feed.specs.declared.feeding.Turn.TheVariants as turns
-use Rattle.dmn_feed.specs.declared.office.Office.{Office}
-use Rattle.dmn_feed.specs.Offices.{StandsAt}
+use Rattle.dmn_office.specs.declared.office.Office.{Office}
+use Rattle.dmn_office.specs.Lasting.{SentLater}
+use Rattle.dmn_office.proofs.Moving.{breaks_earlier, goes_earlier, stands_still}
 use Rattle.dmn_feed.specs.Outcome.{entry_of}
-use Rattle.dmn_feed.specs.Steps.{Asks, MayBreak, MayServe, SentLater, Turned, Turns}
+use Rattle.dmn_feed.specs.Steps.{Asks, MayBreak, MayServe, Turned, Turns}
 
 -- ---- from the turn's start
-
-hand_leads : (m last : Machine) (frame : Frame) → (last ≡ m) ⊎ Accepts m (entry_of frame) last → Leads m last
-hand_leads m last frame (inl same) = subst (λ (k : Machine). Leads m k) (sym same) (leads_self m)
-hand_leads m last frame (inr accepts) = leads_one m (entry_of frame) last accepts
 
 module _ (t later : ℕ) (before mid after : DiskView) (office : Office) (le : t ≤ later) (over : AreOver t before.past) (same : mid ≡ before) where
   pub may_earlier : (frame : Frame) (answer : Answer) (new : Office) → MayServe later mid after office frame answer new → MayServe t before after office frame answer new
   may_earlier frame answer new may m stands =
-      let s = may m (subst (λ (d : DiskView). StandsAt office m d.told) (sym same) stands) in
-      (s.0, s.1, record { stands = s.2.stands; leads = s.2.leads; run = earlier t later before after m s.0 le over stands.registry.disk (subst (λ (d : DiskView). LeavesOnly later d after (IsBetween m s.0)) same s.2.run) s.2.leads })
+      let s = may m (stands_still before mid m office same stands) in
+      (s.0, s.1, goes_earlier t later before mid after m office le over same stands s.0 new s.2)
 
   pub break_earlier : (frame : Frame) → MayBreak later mid after office frame → MayBreak t before after office frame
-  break_earlier frame may m stands =
-      let b = may m (subst (λ (d : DiskView). StandsAt office m d.told) (sym same) stands) in
-      record { last = b.last; hand = b.hand; run = earlier t later before after m b.last le over stands.registry.disk (subst (λ (d : DiskView). LeavesOnly later d after (IsBetween m b.last)) same b.run) (hand_leads m b.last frame b.hand) }
+  break_earlier frame may m stands = breaks_earlier t later before mid after m office le over same stands (Some (entry_of frame)) (may m (stands_still before mid m office same stands))
 
 -- ---- bytes
 

@@ -4,6 +4,6 @@
 --   Laws      statuses are exact, each front of a run is served, the bytes tell of Memory; and a chain of runs keeps each
 --             command that was answered
 --   Stamps    when answers are sent: each behind the moment at which its turn began
---   Offices   for which machine a desk and its registry stand, and how much of a frame's body they read
+--   Bodies    how much of a frame's body is read, and what is done with the frame by what was kept of it
 --   Steps     what the private parts of a turn do
 --   Room      over a station that tells how much it has room for: what suffices, and that no call fails then

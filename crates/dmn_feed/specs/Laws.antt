@@ -14,7 +14,8 @@ use Rattle.dmn_registry.specs.Machine.{Machine, Reaches, at_rest}
 use Rattle.dmn_registry.specs.Own.{IsBetween, IsOwn, Leads}
 use Rattle.dmn_status.specs.declared.status.Status.{Status}
 use Rattle.dmn_status.specs.declared.status.Status.TheVariants as statuses
-use Rattle.dmn_feed.specs.Outcome.{InHand, IsLasting, Outcome, most}
+use Rattle.dmn_office.specs.Lasting.{IsLasting}
+use Rattle.dmn_feed.specs.Outcome.{InHand, Outcome, most}
 use Rattle.dmn_feed.specs.Serving.{Serves}
 
 -- ---- statuses

@@ -3,6 +3,6 @@ pub mod Serving
 pub mod Outcome
 pub mod Laws
 pub mod Stamps
-pub mod Offices
+pub mod Bodies
 pub mod Steps
 pub mod Room

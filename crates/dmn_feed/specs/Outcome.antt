@@ -2,24 +2,21 @@
 use Rattle.std.specs.Prelude.{◌≡◌, ◌≢◌, ◌⊎◌, ℕ, ◌<◌, ◌≤◌, Bool, true, List, [], ◌∷◌, ◌++◌, length, None, Some}
 use Rattle.std.specs.List.{All, flat_map}
 use Rattle.dmn_outside.specs.Crashes.{LeavesOnly, Rests}
-use Rattle.dmn_outside.specs.Disk.{DiskView, IfReads, Since, Three, Told}
+use Rattle.dmn_outside.specs.Disk.{DiskView, IfReads, Told}
 use Rattle.dmn_outside.specs.Line.{LineView}
 use Rattle.dmn_journal.specs.Journal.{Entry}
 use Rattle.dmn_desk.specs.declared.answer.Answer.{Answer}
 use Rattle.dmn_desk.specs.Texts.{Fits, frame_of}
 use Rattle.dmn_frames.specs.Frames.{Begins, Frame, frame_at}
+use Rattle.dmn_office.specs.Lasting.{IsLasting}
+use Rattle.dmn_office.specs.Offices.{HasJournal}
 use Rattle.dmn_registry.specs.Departs.{DepartsAt}
 use Rattle.dmn_registry.specs.Machine.{Accepts, Machine}
 use Rattle.dmn_registry.specs.Own.{IsBetween, IsOwn, Leads}
+use Rattle.dmn_registry.specs.Untrue.{OpeningStops}
 use Rattle.dmn_status.specs.declared.status.Status.{Status}
 use Rattle.dmn_status.specs.declared.status.Status.TheVariants as statuses
 use Rattle.dmn_feed.specs.Serving.{Serves}
-
--- A byte of an answer was sent at the moment t, and the machine was mid behind that answer: each image of a crash at a moment
--- since t is own, and has mid's commands, and no others than those that were accepted until last.
-pub record IsLasting (disk : DiskView) (last mid : Machine) (t : ℕ) : Type 0 where
-  pub leads : Leads mid last
-  pub each : (image : Three (List ℕ)) → Since disk t image → IsBetween mid last image
 
 -- From the machine m, the text begins with these frames, and this is left behind them. These bytes are their answers, in order;
 -- these are the moments at which they are sent; and n is the machine after them. Each answer's length fits its field. Since the
@@ -110,7 +107,20 @@ OfFeed statuses.Memory = Unit {0}
 OfFeed (statuses.NotJournal place) = Unit {0}
 OfFeed status = IsRunning status
 
--- NotJournal tells the place where file 0 departs from a journal image
-abbrev pub NotJournalTells : Status → Told → Type 0
-NotJournalTells (statuses.NotJournal place) told = IfReads told (λ all. DepartsAt all.zeroth place)
-NotJournalTells status told = Unit {0}
+-- NotJournal tells a place at which an opening stops, whatever the slots hold.
+abbrev pub StopsFor : Status → Told → Type 0
+StopsFor (statuses.NotJournal place) told = IfReads told (λ all. OpeningStops all place)
+StopsFor status told = Unit {0}
+
+-- Frames are answered only where file 0 is a journal image, and NotJournal tells the place where it departs from one.
+abbrev pub OpensOn : Status → Told → Type 0
+OpensOn statuses.Done told = IfReads told HasJournal
+OpensOn statuses.CutInput told = IfReads told HasJournal
+OpensOn statuses.Enough told = IfReads told HasJournal
+OpensOn statuses.LineFault told = IfReads told HasJournal
+OpensOn (statuses.NotJournal place) told = IfReads told (λ all. DepartsAt all.zeroth place)
+OpensOn statuses.DiskFault told = Unit {0}
+OpensOn statuses.Memory told = Unit {0}
+OpensOn statuses.Words told = ⊥
+OpensOn (statuses.StartForm place) told = ⊥
+OpensOn statuses.AlreadyInit told = ⊥

@@ -12,12 +12,13 @@ use Rattle.dmn_frames.specs.Frames.{Begins, Cuts, Frame, frame_at}
 use Rattle.dmn_frames.specs.Room.{SpendsSent}
 use Rattle.dmn_frames.specs.declared.limits.TheConstants.{LONGEST_BODY}
 use Rattle.dmn_registry.specs.Machine.{Machine}
+use Rattle.dmn_registry.specs.Snapshots.{SnapshotsFit}
 use Rattle.dmn_status.specs.declared.status.Status.{Status}
 use Rattle.dmn_status.specs.declared.status.Status.TheVariants as statuses
 use Rattle.dmn_feed.specs.declared.asking.Stop.{Stop}
 use Rattle.dmn_feed.specs.declared.asking.Stop.TheVariants as stops
 use Rattle.dmn_feed.specs.declared.feeding.Turn.{Turn}
-use Rattle.dmn_feed.specs.declared.office.Office.{Office}
+use Rattle.dmn_office.specs.declared.office.Office.{Office}
 use Rattle.dmn_feed.specs.Laws.{status_of}
 use Rattle.dmn_feed.specs.Outcome.{entry_of}
 use Rattle.dmn_feed.specs.Serving.{Serves}
@@ -43,10 +44,11 @@ HasPlaceNext text end room = (frame : Frame) (after : List ℕ) → frame_at tex
 
 -- So many bytes more may be sent, and files may be so long: this is enough, whatever is answered to frames that the text begins
 -- with. The room for sending has all bytes that may answer them, and a file has the journal behind them with the record of any
--- command that the next frame may be.
+-- command that the next frame may be, or a snapshot of the machine.
 pub record Suffices (m : Machine) (line_room disk_room : ℕ) (text : List ℕ) : Type 0 where
   pub sends : (frames : List Frame) (left : List ℕ) (answers : List Answer) (n : Machine) → MayBeServed m text frames left answers n → length (flat_map frame_of answers) ≤ line_room
   pub keeps : (frames : List Frame) (left : List ℕ) (answers : List Answer) (n : Machine) → MayBeServed m text frames left answers n → HasPlaceNext left (gate_place (header_text n.start) n.commands) disk_room
+  pub snapshots : (frames : List Frame) (left : List ℕ) (answers : List Answer) (n : Machine) → MayBeServed m text frames left answers n → SnapshotsFit n disk_room
 
 -- ---- a run
 

@@ -1,7 +1,6 @@
 -- What the private parts of a turn do.
-use Rattle.std.specs.Prelude.{◌≡◌, ◌≢◌, ◌⊎◌, ℕ, ◌≤◌, Bool, true, List, [], ◌++◌, length, take, Option, None, Some, Result, Ok, Err}
-use Rattle.std.specs.List.{All}
-use Rattle.dmn_outside.specs.Disk.{AreOver, DiskView}
+use Rattle.std.specs.Prelude.{◌≡◌, ◌≢◌, ◌⊎◌, ℕ, Bool, true, List, [], ◌++◌, take, Option, None, Some, Result, Ok, Err}
+use Rattle.dmn_outside.specs.Disk.{DiskView}
 use Rattle.dmn_outside.specs.Line.{LineView, Talk}
 use Rattle.dmn_outside.specs.Pieces.{Ended, Took}
 use Rattle.dmn_outside.specs.declared.device.DiskFault.{DiskFault}
@@ -16,10 +15,11 @@ use Rattle.dmn_feed.specs.declared.asking.Stop.{Stop}
 use Rattle.dmn_feed.specs.declared.asking.Stop.TheVariants as stops
 use Rattle.dmn_feed.specs.declared.feeding.Turn.{Turn}
 use Rattle.dmn_feed.specs.declared.feeding.Turn.TheVariants as turns
-use Rattle.dmn_feed.specs.declared.office.Office.{Office}
 use Rattle.dmn_feed.specs.declared.reply.Reply.{Reply}
 use Rattle.dmn_feed.specs.declared.reply.Reply.TheVariants as replies
-use Rattle.dmn_feed.specs.Offices.{Breaks, GoesOn, StandsAt}
+use Rattle.dmn_office.specs.declared.office.Office.{Office}
+use Rattle.dmn_office.specs.Lasting.{SentLater}
+use Rattle.dmn_office.specs.Offices.{Breaks, GoesOn, StandsAt}
 use Rattle.dmn_feed.specs.Outcome.{Sent, entry_of}
 use Rattle.dmn_feed.specs.Serving.{MayAnswer}
 
@@ -31,7 +31,7 @@ MayServe started before after old frame answer new = (m : Machine) → StandsAt 
 
 -- the disk failed while the frame's command was done
 abbrev pub MayBreak : ℕ → DiskView → DiskView → Office → Frame → Type 0
-MayBreak started before after old frame = (m : Machine) → StandsAt old m before.told → Breaks started before after m (entry_of frame)
+MayBreak started before after old frame = (m : Machine) → StandsAt old m before.told → Breaks started before after m (Some (entry_of frame))
 
 abbrev pub some_of : Result Answer DiskFault → Result (Option Answer) Stop
 some_of (Ok answer) = Ok (Some answer)
@@ -68,14 +68,6 @@ pub record Turned (started : ℕ) (before after : DiskView) (old : Office) (answ
   pub front : frame_at text ≡ Some (frame, left)
   pub may : MayServe started before after old frame answer new
   pub fits : Fits answer
-
--- a moment for each of these bytes, none before a moment at which all earlier states of the disk were over
-pub record SentLater (bytes : List ℕ) (disk : DiskView) : Type 0 where
-  pub from : ℕ
-  pub over : AreOver from disk.past
-  pub moments : List ℕ
-  pub count : length moments ≡ length bytes
-  pub each : All (λ t. from ≤ t) moments
 
 -- a front of these bytes was sent before a fault of this caller's, less than all of them, at the first of these moments
 pub record SentFewer (stamped : Bool) (bytes moments : List ℕ) (old new : LineView) : Type 0 where

@@ -1,6 +1,7 @@
 //! A frame's body is taken, and what it asks for is done.
 
 ghost use Rattle.std.specs.Prelude.{◌≡◌, ◌≤◌, true, false, IfOk, IfSome, IsErrOf, OnOk};
+ghost use Rattle.dmn_registry.specs.Snapshots.{HasRoomForSnapshot};
 ghost use Rattle.dmn_outside.specs.Counts.{Rose};
 ghost use Rattle.dmn_outside.specs.Later.{IsQuiet};
 ghost use Rattle.dmn_desk.specs.Texts.{IsBounded};
@@ -8,9 +9,10 @@ ghost use Rattle.dmn_feed.specs.Room.{AsksSurely, HasPlaceBody};
 ghost use Rattle.dmn_feed.specs.Steps.{Asks, some_of};
 ghost use Rattle.dmn_feed.specs.declared.asking.Stop.TheVariants.{DiskFault as DiskStop, LineFault as LineStop};
 
-use crate::office::{Office, reading_of};
+use crate::answering::{answer_frame, reading_of};
 use dmn_desk::{Answer, ShortAnswer};
 use dmn_frames::{Body, read_body};
+use dmn_office::Office;
 use dmn_outside::{DiskFault, Failed, Station};
 use std::alloc::Global;
 
@@ -46,7 +48,7 @@ pub fn ask<T: Station>(
     ensures line_fault { IsErrOf result Stop.LineFault → Rose (T.line station.old).faults (T.line station.new).faults }
     ensures disk_later { (T.disk station.old).faults ≤ (T.disk station.new).faults }
     ensures disk_fault { IsErrOf result Stop.DiskFault → Rose (T.disk station.old).faults (T.disk station.new).faults }
-    ensures sure { T.tells ≡ true → T.tells_room ≡ true → HasPlaceBody kind size (T.line station.old).talk.left office.old.registry.journal.end (T.disk station.old).room
+    ensures sure { T.tells ≡ true → T.tells_room ≡ true → HasPlaceBody kind size (T.line station.old).talk.left office.old.registry.journal.end (T.disk station.old).room → HasRoomForSnapshot office.old.registry (T.disk station.old).room
         → AsksSurely result (T.room station.old) (T.room station.new) (T.line station.old) (T.line station.new) (T.disk station.old) (T.disk station.new) }
 {
     let reading = reading_of(kind, size);
@@ -55,7 +57,7 @@ pub fn ask<T: Station>(
         Ok(Body::Cut) => Ok(None),
         Ok(Body::Lacking) => Ok(Some(Answer::Short(ShortAnswer::Memory))),
         Ok(Body::Kept(kept)) => {
-            let answer = office.answer(alloc, station, kind, size, kept.as_slice());
+            let answer = answer_frame(alloc, station, office, kind, size, kept.as_slice());
             some_of(answer)
         }
     }

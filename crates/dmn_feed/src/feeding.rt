@@ -7,21 +7,22 @@ ghost use Rattle.dmn_outside.specs.Later.{IsLater};
 ghost use Rattle.dmn_frames.specs.Frames.{Cuts, Frame};
 ghost use Rattle.dmn_frames.specs.Stamps.{StampsBehind};
 ghost use Rattle.dmn_registry.specs.Machine.{Machine, at_rest};
+ghost use Rattle.dmn_registry.specs.Opening.{HasTrueSlot, Reading};
 ghost use Rattle.dmn_registry.specs.Own.{IsOwn};
+ghost use Rattle.dmn_registry.specs.Snapshots.{HasRoomForSnapshot};
+ghost use Rattle.dmn_office.specs.Offices.{StandsAt};
 ghost use Rattle.dmn_feed.specs.Laws.{EndsExactly};
-ghost use Rattle.dmn_feed.specs.Offices.{StandsAt};
-ghost use Rattle.dmn_feed.specs.Outcome.{IsRunning, NotJournalTells, OfFeed, Outcome};
+ghost use Rattle.dmn_feed.specs.Outcome.{IsRunning, OfFeed, OpensOn, Outcome, StopsFor};
 ghost use Rattle.dmn_feed.specs.Room.{EndsSurely, HasPlaceNext, NeverFaults, Suffices, TurnsSurely};
 ghost use Rattle.dmn_feed.specs.Stamps.{SentInTurns};
 ghost use Rattle.dmn_feed.specs.Steps.{Turns};
 
 use crate::asking::{Stop, ask};
-use crate::office::Office;
 use crate::reply::Reply;
-use dmn_desk::Desk;
 use dmn_frames::{Head, read_head};
+use dmn_office::Office;
 use dmn_outside::{Failed, Station, send_all};
-use dmn_registry::{OpenFault, Registry};
+use dmn_registry::OpenFault;
 use dmn_status::Status;
 use std::alloc::Global;
 
@@ -54,7 +55,7 @@ fn serve_frame<T: Station>(
     ensures line_fault { IsErrOf result Stop.LineFault → Rose (T.line station.old).faults (T.line station.new).faults }
     ensures disk_later { (T.disk station.old).faults ≤ (T.disk station.new).faults }
     ensures disk_fault { IsErrOf result Stop.DiskFault → Rose (T.disk station.old).faults (T.disk station.new).faults }
-    ensures sure { T.tells ≡ true → T.tells_room ≡ true → HasPlaceNext (T.line station.old).talk.left office.old.registry.journal.end (T.disk station.old).room
+    ensures sure { T.tells ≡ true → T.tells_room ≡ true → HasPlaceNext (T.line station.old).talk.left office.old.registry.journal.end (T.disk station.old).room → HasRoomForSnapshot office.old.registry (T.disk station.old).room
         → TurnsSurely result (T.time station.old) office.old office.new (T.room station.old) (T.room station.new) (T.line station.old) (T.line station.new) (T.disk station.old) (T.disk station.new) }
 {
     match read_head(station) {
@@ -115,8 +116,10 @@ pub fn feed<T: Station>(alloc: Global, station: &mut T) -> Status
     // Done, CutInput and Enough come only where the text's frames say so, whatever the disk holds.
     ensures exact { T.tells ≡ true → (frames : List Frame) (left : List ℕ) → Cuts (T.line station.old).talk.left frames left → EndsExactly result frames left }
 
-    // NotJournal tells the place where file 0 departs from a journal image.
-    ensures departs { NotJournalTells result (T.disk station.old).told }
+    // Where the newest slot is true of file 0: frames are answered only where this is a journal image, and NotJournal tells the
+    // place where it departs from one. Whatever the slots hold, NotJournal comes only for a cause that is in the file.
+    ensures opens { Reading HasTrueSlot (T.disk station.old).told → OpensOn result (T.disk station.old).told }
+    ensures cause { StopsFor result (T.disk station.old).told }
 
     // Memory and NotJournal come before anything is taken or sent.
     ensures unserved { ¬ IsRunning result → T.line station.new ≡ T.line station.old }
@@ -136,16 +139,10 @@ pub fn feed<T: Station>(alloc: Global, station: &mut T) -> Status
     ensures sure { T.tells ≡ true → T.tells_room ≡ true → (m : Machine) → IsKnown (IsOwn m) (T.disk station.old).told → Suffices (at_rest m) (T.room station.old) (T.disk station.old).room (T.line station.old).talk.left
         → EndsSurely result (T.line station.old) (T.line station.new) (T.disk station.old) (T.disk station.new) }
 {
-    let Ok(desk) = Desk::new(alloc) else {
-        return Status::Memory;
-    };
-    match Registry::open(alloc, station) {
+    match Office::open(alloc, station) {
         Err(OpenFault::NotJournal { at }) => Status::NotJournal { at },
         Err(OpenFault::DiskFault) => Status::DiskFault,
         Err(OpenFault::Memory) => Status::Memory,
-        Ok(registry) => {
-            let mut office = Office { desk, registry };
-            run(alloc, station, &mut office)
-        }
+        Ok(mut office) => run(alloc, station, &mut office),
     }
 }

@@ -1,10 +1,10 @@
 //! Frames of a line, answered over a registry on a disk: each command is durable before its answer is sent.
 #![tactic(auto)]
 
+mod answering;
 mod asking;
 mod feeding;
 mod laws;
-mod office;
 mod reply;
 
 pub use feeding::feed;

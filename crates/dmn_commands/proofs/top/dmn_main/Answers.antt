@@ -1,7 +1,8 @@
 use Rattle.std.proofs.Common.{sym}
+use Rattle.dmn_outside.proofs.Passing.{later_quiet}
 use Rattle.dmn_registry.specs.Machine.{at_rest}
 use Rattle.dmn_commands.specs.declared.command.Command.TheVariants as commands
-use Rattle.dmn_commands.proofs.Running.{ends_well, runs_asked}
+use Rattle.dmn_commands.proofs.Running.{ends_well, passes_asked, runs_asked, serves_well}
 use Rattle.dmn_commands.proofs.top.dmn_main.Goals as goal
 
 pub returns-in-Some-Init-clause-runs : goal.returns-in-Some-Init-clause-runs
@@ -22,7 +23,8 @@ returns-in-Some-Feed-clause-runs g c = λ command wanted. runs_asked _ commands.
   complete = λ tells m known calm frames left cut.
       ends_well c.feed.result g.T.Device.tells_moments (g.T.Device.time c.args.station.now) (at_rest m) (g.T.Device.disk c.args.station.now) (g.T.Device.disk c.feed.new.station) (g.T.Device.line c.args.station.now) (g.T.Device.line c.feed.new.station) frames left
       (c.feed.ensures.outcome tells m known) cut (λ e. calm.line (c.feed.ensures.line_fault e)) (λ e. calm.disk (c.feed.ensures.disk_fault e));
-  departs = c.feed.ensures.departs;
+  opens = c.feed.ensures.opens;
+  cause = c.feed.ensures.cause;
   unserved = c.feed.ensures.unserved;
   in_turns = c.feed.ensures.in_turns;
   sure = c.feed.ensures.sure;
@@ -47,3 +49,21 @@ returns-in-Some-Client-clause-runs g c = λ command wanted. runs_asked _ command
   sure = c.client.ensures.sure;
   disk = c.client.ensures.disk;
 })
+
+pub returns-in-Some-Serve-clause-runs : goal.returns-in-Some-Serve-clause-runs
+returns-in-Some-Serve-clause-runs g c = λ command wanted. runs_asked _ (commands.Serve c.in-Some-Serve.callers) command _ _ (sym (rw c.in-Some-Serve.field-0-is at c.in-Some-Serve.ensures)) wanted (record {
+  ends = c.serve.ensures.status;
+  outcome = c.serve.ensures.outcome;
+  exact = c.serve.ensures.exact;
+  complete = λ tells m known disk callers.
+      serves_well c.serve.result c.in-Some-Serve.callers g.T.Device.tells_moments (g.T.Device.time c.args.station.now) (at_rest m) (g.T.Device.disk c.args.station.now) (g.T.Device.disk c.serve.new.station) (g.T.Device.line c.args.station.now) (g.T.Device.line c.serve.new.station)
+      (c.serve.ensures.outcome tells m known) (λ e. callers (c.serve.ensures.caller_fault e)) (λ e. disk (c.serve.ensures.disk_fault e));
+  opens = c.serve.ensures.opens;
+  cause = c.serve.ensures.cause;
+  unserved = c.serve.ensures.unserved;
+  sure = c.serve.ensures.sure;
+})
+
+pub returns-in-Some-Init-clause-later : goal.returns-in-Some-Init-clause-later
+returns-in-Some-Init-clause-later g c = λ command wanted.
+    passes_asked g.T.Device.tells_moments (g.T.Device.time c.args.station.now) (g.T.Device.time c.init.new.station) (g.T.Device.line c.args.station.now) (g.T.Device.line c.init.new.station) _ commands.Init command (sym (rw c.in-Some-Init.field-0-is at c.in-Some-Init.ensures)) wanted (later_quiet c.init.ensures.quiet)

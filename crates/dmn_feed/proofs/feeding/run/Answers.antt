@@ -4,7 +4,7 @@ use Rattle.dmn_outside.proofs.Passing.{later_same, later_then}
 use Rattle.dmn_feed.proofs.Ending.{took_cut, took_done, took_most}
 use Rattle.dmn_feed.proofs.Fed.{answered_still, fed_broken, fed_more, fed_none, fed_part, rests_still, sent_fault, took_none, took_one}
 use Rattle.dmn_frames.proofs.Spending.{spent_nothing, spent_then}
-use Rattle.dmn_feed.proofs.Spending.{disk_same, disk_then, holds_next, never_lacks}
+use Rattle.dmn_feed.proofs.Spending.{disk_same, disk_then, holds_next, snaps_next, never_lacks}
 use Rattle.dmn_feed.proofs.Stamping.{no_turns, turns_all, turns_ended, turns_fault, turns_more, turns_part, turns_still}
 use Rattle.dmn_feed.proofs.feeding.run.Goals as goal
 
@@ -34,7 +34,7 @@ run-preserved g c = record {
       turns_more _ _ _ _ _ _ t.0 (c.run.invariant.turns tells stamped) t.2.fits t.3.talk (c.in-Ok-Answered.ensures.in_turn stamped) (g.T.Device.even _ tells stamped) (g.T.Device.even _ tells stamped);
   room = λ tells told m stands enough.
       let r = c.run.invariant.room tells told m stands enough in
-      let t = c.in-Ok-Answered.ensures.sure tells told (holds_next _ c.run.counter _ m _ _ _ _ c.run.office (c.run.invariant.told tells m stands) _ _ enough r.1) in
+      let t = c.in-Ok-Answered.ensures.sure tells told (holds_next _ c.run.counter _ m _ _ _ _ c.run.office (c.run.invariant.told tells m stands) _ _ enough r.1) (snaps_next _ c.run.counter _ m _ _ _ _ c.run.office (c.run.invariant.told tells m stands) _ _ enough r.1) in
       (spent_then r.0 t.0, disk_then _ _ _ r.1 t.1);
   usable = c.in-Ok-Answered.ensures.usable;
   rose = λ some. omega (arith, c.in-Ok-Answered.ensures.time, c.run.invariant.later.time);
@@ -104,13 +104,13 @@ returns-in-Err-DiskFault-clause-in_turns g c = λ tells stamped.
 pub returns-in-Ok-Ended-clause-sure : goal.returns-in-Ok-Ended-clause-sure
 returns-in-Ok-Ended-clause-sure g c = λ tells told m stands enough.
     let r = c.run.invariant.room tells told m stands enough in
-    let t = c.in-Ok-Ended.ensures.sure tells told (holds_next _ c.run.counter _ m _ _ _ _ c.run.office (c.run.invariant.told tells m stands) _ _ enough r.1) in
+    let t = c.in-Ok-Ended.ensures.sure tells told (holds_next _ c.run.counter _ m _ _ _ _ c.run.office (c.run.invariant.told tells m stands) _ _ enough r.1) (snaps_next _ c.run.counter _ m _ _ _ _ c.run.office (c.run.invariant.told tells m stands) _ _ enough r.1) in
     record { line_runs = λ e. cc; disk_runs = λ e. cc; line_faults = (spent_then r.0 t.0).faults; disk_faults = t.1.faults ∙ r.1.faults }
 
 pub returns-in-Ok-Cut-clause-sure : goal.returns-in-Ok-Cut-clause-sure
 returns-in-Ok-Cut-clause-sure g c = λ tells told m stands enough.
     let r = c.run.invariant.room tells told m stands enough in
-    let t = c.in-Ok-Cut.ensures.sure tells told (holds_next _ c.run.counter _ m _ _ _ _ c.run.office (c.run.invariant.told tells m stands) _ _ enough r.1) in
+    let t = c.in-Ok-Cut.ensures.sure tells told (holds_next _ c.run.counter _ m _ _ _ _ c.run.office (c.run.invariant.told tells m stands) _ _ enough r.1) (snaps_next _ c.run.counter _ m _ _ _ _ c.run.office (c.run.invariant.told tells m stands) _ _ enough r.1) in
     record { line_runs = λ e. cc; disk_runs = λ e. cc; line_faults = (spent_then r.0 t.0).faults; disk_faults = t.1.faults ∙ r.1.faults }
 
 pub returns-clause-sure : goal.returns-clause-sure
@@ -122,11 +122,11 @@ pub returns-in-Err-LineFault-clause-sure : goal.returns-in-Err-LineFault-clause-
 returns-in-Err-LineFault-clause-sure g c = λ tells told m stands enough.
     let r = c.run.invariant.room tells told m stands enough in
     let f = c.run.invariant.told tells m stands in
-    let t = rw c.in-Err-LineFault.field-0-is at (c.in-Err-LineFault.ensures.sure tells told (holds_next _ c.run.counter _ m _ _ _ _ c.run.office f _ _ enough r.1)) in
+    let t = rw c.in-Err-LineFault.field-0-is at (c.in-Err-LineFault.ensures.sure tells told (holds_next _ c.run.counter _ m _ _ _ _ c.run.office f _ _ enough r.1) (snaps_next _ c.run.counter _ m _ _ _ _ c.run.office f _ _ enough r.1)) in
     absurd (never_lacks _ c.run.counter _ m _ _ _ _ c.run.office f _ _ _ _ _ _ t.0 t.1 r.0 enough t.2 t.3)
 
 pub returns-in-Err-DiskFault-clause-sure : goal.returns-in-Err-DiskFault-clause-sure
 returns-in-Err-DiskFault-clause-sure g c = λ tells told m stands enough.
     let r = c.run.invariant.room tells told m stands enough in
     let f = c.run.invariant.told tells m stands in
-    absurd (rw c.in-Err-DiskFault.field-0-is at (c.in-Err-DiskFault.ensures.sure tells told (holds_next _ c.run.counter _ m _ _ _ _ c.run.office f _ _ enough r.1)))
+    absurd (rw c.in-Err-DiskFault.field-0-is at (c.in-Err-DiskFault.ensures.sure tells told (holds_next _ c.run.counter _ m _ _ _ _ c.run.office f _ _ enough r.1) (snaps_next _ c.run.counter _ m _ _ _ _ c.run.office f _ _ enough r.1)))

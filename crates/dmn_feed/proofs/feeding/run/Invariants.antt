@@ -4,7 +4,7 @@ use Rattle.dmn_outside.specs.Failing.{KeepsDisk}
 use Rattle.dmn_outside.specs.Later.{IsLater}
 use Rattle.dmn_frames.specs.Room.{SpendsSent}
 use Rattle.dmn_registry.specs.Machine.{Machine}
-use Rattle.dmn_feed.specs.Offices.{StandsAt}
+use Rattle.dmn_office.specs.Offices.{StandsAt}
 use Rattle.dmn_feed.specs.Room.{Suffices}
 use Rattle.dmn_feed.proofs.Fed.{FedSoFar, TookSoFar}
 use Rattle.dmn_feed.proofs.Stamping.{FedInTurns}

@@ -11,7 +11,7 @@ use Rattle.dmn_outside.specs.Line.{Talk}
 use Rattle.dmn_outside.proofs.Passing.{room_kept}
 use Rattle.dmn_frames.proofs.Spending.{spent_none, spent_whole}
 use Rattle.dmn_frames.proofs.Turns.{cut_within}
-use Rattle.dmn_feed.proofs.Spending.{disk_same, disk_then, next_place}
+use Rattle.dmn_feed.proofs.Spending.{disk_same, disk_then, next_place, snaps_there}
 use Rattle.dmn_feed.proofs.feeding.serve_frame.Goals as goal
 
 pub returns-in-Err-ask-clause-turns : goal.returns-in-Err-ask-clause-turns
@@ -45,45 +45,45 @@ returns-clause-turns g c = λ tells.
     (λ stamped. subst (λ (l : List ℕ). (n : ℕ) × (n < length l) × StampsAfter (g.T.Device.time c.ask.new.station) (g.T.Device.time c.send_all.new.line) n (g.T.Device.line c.ask.new.station).moments (g.T.Device.line c.send_all.new.line).moments) text (c.in-Err-send_all.ensures.moments stamped)))
 
 pub returns-in-Err-clause-sure : goal.returns-in-Err-clause-sure
-returns-in-Err-clause-sure g c = λ tells told place. absurd (c.in-Err.ensures.sure told)
+returns-in-Err-clause-sure g c = λ tells told place snaps. absurd (c.in-Err.ensures.sure told)
 
 pub returns-in-Ok-Ended-clause-sure : goal.returns-in-Ok-Ended-clause-sure
-returns-in-Ok-Ended-clause-sure g c = λ tells told place.
+returns-in-Ok-Ended-clause-sure g c = λ tells told place snaps.
     let h = rw c.in-Ok-Ended.field-0-is at (c.in-Ok-Ended.ensures.heads tells) in
     (spent_none (c.in-Ok-Ended.ensures.sure told) (ap (λ (t : Talk). t.sent) h.1), disk_same _ _ c.read_head.ensures.disk)
 
 pub returns-in-Ok-Cut-clause-sure : goal.returns-in-Ok-Cut-clause-sure
-returns-in-Ok-Cut-clause-sure g c = λ tells told place.
+returns-in-Ok-Cut-clause-sure g c = λ tells told place snaps.
     let h = rw c.in-Ok-Cut.field-0-is at (c.in-Ok-Cut.ensures.heads tells) in
     (spent_none (c.in-Ok-Cut.ensures.sure told) (ap (λ (t : Talk). t.sent) h.2), disk_same _ _ c.read_head.ensures.disk)
 
 pub returns-in-Err-ask-clause-sure : goal.returns-in-Err-ask-clause-sure
-returns-in-Err-ask-clause-sure g c = λ tells told place.
+returns-in-Err-ask-clause-sure g c = λ tells told place snaps.
     let head = rw c.in-Ok-Of.field-0-is at (c.in-Ok-Of.ensures.heads tells) in
-    absurd (c.in-Err-ask.ensures.sure tells told (next_place c.in-Ok-Of.kind c.in-Ok-Of.size (g.T.Device.line c.args.station.now).talk (g.T.Device.line c.read_head.new.line).talk c.args.office.now.registry.journal.end (g.T.Device.disk c.args.station.now).room (g.T.Device.disk c.read_head.new.line).room head (ap (λ (v : DiskView). v.room) c.read_head.ensures.disk) place))
+    absurd (c.in-Err-ask.ensures.sure tells told (next_place c.in-Ok-Of.kind c.in-Ok-Of.size (g.T.Device.line c.args.station.now).talk (g.T.Device.line c.read_head.new.line).talk c.args.office.now.registry.journal.end (g.T.Device.disk c.args.station.now).room (g.T.Device.disk c.read_head.new.line).room head (ap (λ (v : DiskView). v.room) c.read_head.ensures.disk) place) (snaps_there c.args.office.now.registry (g.T.Device.disk c.args.station.now) (g.T.Device.disk c.read_head.new.line) c.read_head.ensures.disk snaps))
 
 pub returns-in-Ok-None-clause-sure : goal.returns-in-Ok-None-clause-sure
-returns-in-Ok-None-clause-sure g c = λ tells told place.
+returns-in-Ok-None-clause-sure g c = λ tells told place snaps.
     let head = rw c.in-Ok-Of.field-0-is at (c.in-Ok-Of.ensures.heads tells) in
     let cut = rw c.in-Ok-None.field-0-is at (c.in-Ok-None.ensures.asks tells) in
-    let kept = c.in-Ok-None.ensures.sure tells told (next_place c.in-Ok-Of.kind c.in-Ok-Of.size (g.T.Device.line c.args.station.now).talk (g.T.Device.line c.read_head.new.line).talk c.args.office.now.registry.journal.end (g.T.Device.disk c.args.station.now).room (g.T.Device.disk c.read_head.new.line).room head (ap (λ (v : DiskView). v.room) c.read_head.ensures.disk) place) in
+    let kept = c.in-Ok-None.ensures.sure tells told (next_place c.in-Ok-Of.kind c.in-Ok-Of.size (g.T.Device.line c.args.station.now).talk (g.T.Device.line c.read_head.new.line).talk c.args.office.now.registry.journal.end (g.T.Device.disk c.args.station.now).room (g.T.Device.disk c.read_head.new.line).room head (ap (λ (v : DiskView). v.room) c.read_head.ensures.disk) place) (snaps_there c.args.office.now.registry (g.T.Device.disk c.args.station.now) (g.T.Device.disk c.read_head.new.line) c.read_head.ensures.disk snaps) in
     (spent_none (room_kept (c.in-Ok-Of.ensures.sure told) kept.0) (ap (λ (t : Talk). t.sent) (cut_within _ _ _ _ _ head cut.0).2), disk_then _ _ _ (disk_same _ _ c.read_head.ensures.disk) kept.1)
 
 pub returns-in-Ok-clause-sure : goal.returns-in-Ok-clause-sure
-returns-in-Ok-clause-sure g c = λ tells told place.
+returns-in-Ok-clause-sure g c = λ tells told place snaps.
     let head = rw c.in-Ok-Of.field-0-is at (c.in-Ok-Of.ensures.heads tells) in
     let asks = rw c.in-Ok-Some.field-0-is at (c.in-Ok-Some.ensures.asks tells) in
-    let kept = c.in-Ok-Some.ensures.sure tells told (next_place c.in-Ok-Of.kind c.in-Ok-Of.size (g.T.Device.line c.args.station.now).talk (g.T.Device.line c.read_head.new.line).talk c.args.office.now.registry.journal.end (g.T.Device.disk c.args.station.now).room (g.T.Device.disk c.read_head.new.line).room head (ap (λ (v : DiskView). v.room) c.read_head.ensures.disk) place) in
+    let kept = c.in-Ok-Some.ensures.sure tells told (next_place c.in-Ok-Of.kind c.in-Ok-Of.size (g.T.Device.line c.args.station.now).talk (g.T.Device.line c.read_head.new.line).talk c.args.office.now.registry.journal.end (g.T.Device.disk c.args.station.now).room (g.T.Device.disk c.read_head.new.line).room head (ap (λ (v : DiskView). v.room) c.read_head.ensures.disk) place) (snaps_there c.args.office.now.registry (g.T.Device.disk c.args.station.now) (g.T.Device.disk c.read_head.new.line) c.read_head.ensures.disk snaps) in
     let took = ap (λ (t : Talk). t.sent) asks.0.after ∙ ap (λ (t : Talk). t.sent) head.after in (
       spent_whole _ (room_kept (c.in-Ok-Of.ensures.sure told) kept.0) (c.in-Ok.ensures.sure told) took (ap (λ (t : Talk). t.sent) (c.in-Ok.ensures.sends tells)),
       disk_then _ _ _ (disk_same _ _ c.read_head.ensures.disk) (disk_then _ _ _ kept.1 (disk_same _ _ c.send_all.ensures.disk)),
     )
 
 pub returns-clause-sure : goal.returns-clause-sure
-returns-clause-sure g c = λ tells told place.
+returns-clause-sure g c = λ tells told place snaps.
     let head = rw c.in-Ok-Of.field-0-is at (c.in-Ok-Of.ensures.heads tells) in
     let asks = rw c.in-Ok-Some.field-0-is at (c.in-Ok-Some.ensures.asks tells) in
-    let kept = c.in-Ok-Some.ensures.sure tells told (next_place c.in-Ok-Of.kind c.in-Ok-Of.size (g.T.Device.line c.args.station.now).talk (g.T.Device.line c.read_head.new.line).talk c.args.office.now.registry.journal.end (g.T.Device.disk c.args.station.now).room (g.T.Device.disk c.read_head.new.line).room head (ap (λ (v : DiskView). v.room) c.read_head.ensures.disk) place) in
+    let kept = c.in-Ok-Some.ensures.sure tells told (next_place c.in-Ok-Of.kind c.in-Ok-Of.size (g.T.Device.line c.args.station.now).talk (g.T.Device.line c.read_head.new.line).talk c.args.office.now.registry.journal.end (g.T.Device.disk c.args.station.now).room (g.T.Device.disk c.read_head.new.line).room head (ap (λ (v : DiskView). v.room) c.read_head.ensures.disk) place) (snaps_there c.args.office.now.registry (g.T.Device.disk c.args.station.now) (g.T.Device.disk c.read_head.new.line) c.read_head.ensures.disk snaps) in
     let r = replied (reply_bytes c.to-reply.result) _ _ _ _ _ _ c.in-Ok-Some.answer asks.1 c.to-reply.ensures in
     let text : c.as_slice.result.now ≡ frame_of r.answer = c.as_slice.ensures ∙ r.bytes_are in
     let lacks = c.in-Err-send_all.ensures.sure told in

@@ -1,6 +1,6 @@
 use Rattle.std.proofs.Common.{arith, sym}
 use Rattle.dmn_feed.proofs.Standing.{kind_decided, long_decides, unknown_decides}
-use Rattle.dmn_feed.proofs.office.reading_of.Goals as goal
+use Rattle.dmn_feed.proofs.answering.reading_of.Goals as goal
 
 pub returns-then-size-gt-LONGEST_BODY : goal.returns-then-size-gt-LONGEST_BODY
 returns-then-size-gt-LONGEST_BODY c = long_decides c.args.number c.args.size (omega arith)

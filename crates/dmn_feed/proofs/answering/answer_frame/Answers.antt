@@ -1,7 +1,7 @@
 use Rattle.std.proofs.Common.{◌≡◌, ◌≤◌, arith, sym, ap, ◌∙◌, subst, Result, false}
 use Rattle.dmn_desk.specs.Kinds.{kind_of, takes_no_memory}
 use Rattle.dmn_feed.proofs.Standing.{fault_answer, gives_idle, gives_memory, long_answer, request_does, request_room, unknown_answer}
-use Rattle.dmn_feed.proofs.office.Office.answer.Goals as goal
+use Rattle.dmn_feed.proofs.answering.answer_frame.Goals as goal
 
 pub returns-then-size-gt-LONGEST_BODY-clause-gives : goal.returns-then-size-gt-LONGEST_BODY-clause-gives
 returns-then-size-gt-LONGEST_BODY-clause-gives g c = gives_idle c.args.number c.args.size c.args.kept.now _ _ _ _ (g.D.Device.past_is_over c.args.disk.now) (λ m. long_answer m c.args.number c.args.size c.args.kept.now (omega arith))
@@ -11,8 +11,8 @@ returns-in_default-clause-gives g c = gives_idle c.args.number c.args.size c.arg
 
 pub returns-in-Ok-clause-gives : goal.returns-in-Ok-clause-gives
 returns-in-Ok-clause-gives g c =
-    request_does c.args.number c.args.size c.args.kept.now c.in-Some.kind c.in-Ok.request (g.D.Device.time c.args.disk.now) (g.D.Device.disk c.args.disk.now) (g.D.Device.disk c.answer.new.disk) c.args.self.now.desk c.answer.new.self c.args.self.now.registry c.answer.new.registry
-    c.if-size-gt-LONGEST_BODY.false c.requires.fits (sym c.of.ensures ∙ c.in-Some.is) c.in-Ok.ensures.told (c.in-Ok.ensures.keeps (omega (arith, c.requires.fits, c.if-size-gt-LONGEST_BODY.false))) (g.D.Device.past_is_over c.args.disk.now) c.answer.result c.answer.ensures.answers c.answer.ensures.moments c.answer.ensures.idle
+    request_does c.args.number c.args.size c.args.kept.now c.in-Some.kind c.in-Ok.request (g.D.Device.time c.args.disk.now) (g.D.Device.disk c.args.disk.now) (g.D.Device.disk c.answer.new.disk) c.args.office.now c.answer.new.self
+    c.if-size-gt-LONGEST_BODY.false c.requires.fits (sym c.of.ensures ∙ c.in-Some.is) c.in-Ok.ensures.told c.answer.result c.answer.ensures.gives
 
 pub returns-in-Err-BadRequest-clause-gives : goal.returns-in-Err-BadRequest-clause-gives
 returns-in-Err-BadRequest-clause-gives g c =
@@ -28,6 +28,6 @@ returns-in-Err-Memory-clause-gives g c =
     gives_memory c.args.number c.args.size c.args.kept.now _ _ _ (g.D.Device.past_is_over c.args.disk.now) free
 
 pub returns-in-Ok-clause-sure : goal.returns-in-Ok-clause-sure
-returns-in-Ok-clause-sure g c = λ told place. c.answer.ensures.sure told
-    (request_room c.args.number c.args.size c.args.kept.now c.in-Some.kind c.in-Ok.request (g.D.Device.time c.args.disk.now) (g.D.Device.disk c.args.disk.now) (g.D.Device.disk c.answer.new.disk) c.args.self.now.desk c.answer.new.self c.args.self.now.registry c.answer.new.registry
-    c.if-size-gt-LONGEST_BODY.false c.requires.fits (sym c.of.ensures ∙ c.in-Some.is) c.in-Ok.ensures.told (c.in-Ok.ensures.keeps (omega (arith, c.requires.fits, c.if-size-gt-LONGEST_BODY.false))) (g.D.Device.past_is_over c.args.disk.now) c.args.self.now.registry.journal.end (g.D.Device.disk c.args.disk.now).room (place c.if-size-gt-LONGEST_BODY.false))
+returns-in-Ok-clause-sure g c = λ told place snaps. c.answer.ensures.sure told
+    (request_room c.args.number c.args.size c.args.kept.now c.in-Some.kind c.in-Ok.request (g.D.Device.time c.args.disk.now) (g.D.Device.disk c.args.disk.now) (g.D.Device.disk c.answer.new.disk) c.args.office.now c.answer.new.self
+    c.if-size-gt-LONGEST_BODY.false c.requires.fits (sym c.of.ensures ∙ c.in-Some.is) c.in-Ok.ensures.told c.args.office.now.registry.journal.end (g.D.Device.disk c.args.disk.now).room (place c.if-size-gt-LONGEST_BODY.false)) snaps

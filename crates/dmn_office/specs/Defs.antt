@@ -1,0 +1,4 @@
+-- A desk and the registry that it serves. A reader begins here; the parts are:
+--   Offices  for which machine both stand on a disk, and what they do with a request, whenever a crash comes
+--   Lasting  what was answered at a moment, and is there in each image since
+--   Steps    what a private part gives

@@ -1,0 +1,4 @@
+pub mod Defs
+pub mod Offices
+pub mod Lasting
+pub mod Steps

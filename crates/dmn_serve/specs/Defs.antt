@@ -1,0 +1,6 @@
+-- What `serve` sends to callers, and what a crash leaves of it. A reader begins here; the parts are:
+--   Callers   what each caller may be sent, from which machine to which; want of memory is free
+--   Outcome   what a run has sent, and what a crash may leave since its start, by its status
+--   Passing   what holds of the line besides its bytes, and when replies are sent
+--   Steps     what the private parts of a turn do
+--   Room      over a station that tells how much it has room for: what suffices, and that no call fails then

@@ -1,0 +1,7 @@
+-- A stream of blocks that anybody can make again: its masternodes, its commitments and its blocks, as values of this repository's
+-- own types. A reader begins here; the parts are:
+--   Tags         the hashes of short texts that stand for keys, outpoints and signatures
+--   Masternodes  the transaction that registers a masternode, by its number
+--   Commitments  the commitment of a quorum that is due at a height, and the verdict on it
+--   Blocks       the start record, and the block of a height
+-- What is hashed stands for a key or a signature: nobody checks it, and no two of them are equal unless SHA-256 collides.

@@ -29,10 +29,12 @@ from words import Mistake
 TOP = os.path.dirname(os.path.dirname(os.path.dirname(os.path.abspath(__file__))))
 CASES = os.path.join(TOP, "cases")
 CRATE = os.path.join(TOP, "crates", "dmn_cases")
-# What no case can reach: rules on limits that take many long blocks, and statuses that want no memory, or 4,294,967,295
-# frames.
+# What no case can reach: rules on limits that take many long blocks, and statuses that want no memory, 4,294,967,295 frames, or
+# 65,536 headers.
 UNREACHED_RULES = {82, 83}
-UNREACHED_STATUSES = {"Memory", "Enough"}
+UNREACHED_STATUSES = {"Memory", "Enough", "HeadersFull"}
+# The runs that answer frames.
+FRAMED = (["feed"], ["client"])
 # A file's text that is longer is told by its length and its hash.
 LONGEST_TEXT = 600
 
@@ -78,8 +80,20 @@ def stand_line(line, count, end, shown):
     return "stand %d %d %s %s" % (line, count, end, hex_words(shown))
 
 
+def visited(run):
+    """The callers of a run, and what each is sent."""
+    if run.each:
+        raise Mistake("line %d: a run of 'serve' is not made for each of its calls" % run.line)
+    for caller in run.callers:
+        yield "caller %d %s" % (caller.line, hex_words(caller.text))
+        yield "reply %d %s" % (caller.reply_line, hex_words(caller.reply))
+
+
 def asked(run):
     """What is sent in a run and what is to come, and where an image of each of its calls is judged, what may then stand."""
+    if run.serves():
+        yield from visited(run)
+        return
     is_judged = bool(run.each)
     is_making = run.words == ["init"]
     if is_judged and (run.stand is None or any(ask.is_accepted() and not ask.stand for ask in run.asks)):
@@ -247,10 +261,10 @@ def tried(place, run, done, folder):
 
 def tried_case(name, case, command):
     """How many of a case's runs were made, and what is wrong with the first that goes wrong. A run whose calls fail is made
-    by no command, and nor is one behind it."""
+    by no command, one of 'serve' is made elsewhere, by callers over HTTP, and nor is one behind it made."""
     with tempfile.TemporaryDirectory() as folder:
         for count, run in enumerate(case.runs):
-            if run.is_faulty():
+            if run.is_faulty() or run.serves():
                 return count, None
             done = made(run, command, folder)
             fault = tried("%s:%%d: %s: " % (name, case.name), run, done, folder)
@@ -336,7 +350,7 @@ def read(words):
 def say_run(case, run, done, with_bytes):
     """A run's command line, what was asked and what was answered, and its code where that is not 0."""
     print("$ %s" % " ".join(["dmnd"] + run.words))
-    if run.words == ["feed"]:
+    if run.words in FRAMED:
         say_answers(case, run, done.stdout, with_bytes)
     else:
         for ask in run.asks:

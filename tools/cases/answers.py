@@ -2,13 +2,15 @@
 
 import ipaddress
 
-from wire import (NO_SERVICE, commitment_text, entry_text, first_branch, frame, list_root, listed, number, pay_of, pay_text,
+from light import ENTRY_SIZE, Diff, diff_between
+from wire import (NO_SERVICE, commitment_text, entry_text, first_branch, frame, list_root, number, pay_of, pay_text,
                   point_text, service_text)
-from words import Mistake, bytes_of
+from words import Mistake
 
 CONNECT, DISCONNECT, TIP, LIST, ROW, PAYEES, MEMBERS, QUORUMS, DIFF, PIN, PAGE, RELEASE = range(1, 13)
+# Those of a light client.
+HEADER, APPLY, SHOW = range(16, 19)
 NO_TRANSACTION = 0xFFFFFFFF
-ENTRY_SIZE = 151
 ROW_SIZE = 293
 # What stands in a commitment behind its bits: a key, a hash and two signatures.
 KEYS_SIZE = 48 + 32 + 96 + 96
@@ -18,12 +20,16 @@ STATUSES = {
     0: ("Ok", ()), 1: ("Memory", ()), 2: ("BadRequest", (("at", 4),)), 3: ("NotHeld", (("low", 4), ("high", 4))),
     4: ("NoSuch", ()), 5: ("BaseAbove", ()), 6: ("PinsFull", ()), 7: ("PinUnknown", ()), 8: ("Refused", ()),
     9: ("NotTip", (("tip", 32),)), 10: ("AtStart", ()), 11: ("TooDeep", (("floor", 4),)), 12: ("JournalFull", ()),
+    21: ("DiffForm", (("at", 4),)), 22: ("WrongBase", (("held", 32),)), 23: ("UnknownHeader", ()), 24: ("BadBranch", ()),
+    25: ("BadCoinbase", ()), 26: ("BadRoot", (("committed", 32), ("computed", 32))), 27: ("HeaderDiffers", (("root", 32),)),
+    28: ("HeadersFull", ()),
 }
 NUMBERS = {name: number for number, (name, _) in STATUSES.items()}
+HELD_FIELDS = (("held", 32), ("root", 32), ("count", 4))
 OK_FIELDS = {
     CONNECT: (("height", 4), ("hash", 32)), DISCONNECT: (("height", 4), ("hash", 32)),
     TIP: (("height", 4), ("hash", 32), ("low", 4), ("top", 4)), LIST: (("height", 4), ("hash", 32)),
-    PIN: (("pin", 4),), PAGE: (), RELEASE: (),
+    PIN: (("pin", 4),), PAGE: (), RELEASE: (), HEADER: (), APPLY: HELD_FIELDS, SHOW: HELD_FIELDS,
 }
 HASH_LISTS = (PAYEES, MEMBERS)
 
@@ -53,14 +59,79 @@ RULE_NUMBERS = {name: number for number, (name, _) in RULES.items()}
 
 # ---- from words to bytes
 
-class Wanted:
-    """The words of an answer to a request of this kind, behind this block where the request is one."""
+def read_entries(words):
+    """Entries of a list: that of a registration by its name, or those from one test registration to another, 'with'
+    what differs."""
+    txs = [words.name()]
+    if words.takes("to"):
+        first, last = int(words.words[words.at - 2]), words.number()
+        txs += [words.names[str(k)] for k in range(first + 1, last + 1)]
+    found = [{"hash": tx.id(), "confirmed": bytes(32), "banned": tx.values["service"] == NO_SERVICE,
+              **{name: tx.values[name] for name in ("service", "operator", "voting")}} for tx in txs]
+    begin = words.at
+    for entry in found:
+        words.at = begin
+        if words.takes("with"):
+            while change_entry(entry, words) and words.takes("and"):
+                pass
+    words.ends()
+    return found
 
-    def __init__(self, words, below, kind, block):
+
+def change_entry(told, words):
+    """What may differ from the registration in an entry or a row."""
+    if "paid" in told and change_row(told, words):
+        return True
+    for name, size in (("owner", 20), ("operator", 48), ("voting", 20)):
+        if name in told and words.takes(name):
+            told[name] = words.sized(size)
+            return True
+    if words.takes("confirmed"):
+        told["confirmed"] = words.hash()
+    elif words.takes("no", "operator"):
+        told["operator"] = bytes(48)
+    elif words.takes("no", "service"):
+        told["service"] = NO_SERVICE
+    elif words.takes("address"):
+        told["service"] = (words.address(), told["service"][1])
+    elif words.takes("port"):
+        told["service"] = (told["service"][0], words.number())
+    elif "paid" not in told and words.takes("banned"):
+        told["banned"] = True
+    elif "paid" not in told and words.takes("valid"):
+        told["banned"] = False
+    else:
+        return False
+    return True
+
+
+def change_row(row, words):
+    for name in ("registered", "paid", "revived", "banned", "penalty", "reason", "reward"):
+        if words.takes(name):
+            row[name] = words.number()
+            return True
+    if words.takes("payout"):
+        row["payout"] = pay_of(words.script())
+    elif words.takes("operator", "payout"):
+        row["operator payout"] = pay_of(words.script())
+    elif words.takes("collateral"):
+        row["collateral"] = words.point()
+    elif words.takes("pays", "to"):
+        row["script"] = pay_of(words.script())
+    else:
+        return False
+    return True
+
+
+class Wanted:
+    """The words of an answer to a request of this kind, which was drafted as this where it is a block or a diff."""
+
+    def __init__(self, words, kind, drafted):
         self.words = words
-        self.below = below
         self.kind = kind
-        self.block = block
+        self.drafted = drafted
+        self.rule = None
+        self.held = None
 
     def frame(self):
         """The frame of the answer, or nothing where none is sent."""
@@ -97,13 +168,18 @@ class Wanted:
             return number(self.words.number(), size)
         if self.words.takes("right"):
             return self.right(name)
-        return self.words.hash()
+        value = self.words.hash()
+        if name == "held":
+            self.held = value
+        return value
 
     def right(self, name):
-        """The root that the block should have told: that of its ids, or that of the list behind it."""
-        if self.block is None or name != "computed":
-            raise Mistake("'right' is said of a root that a block was to tell")
-        return self.block.ids_root if self.rule == RULE_NUMBERS["BadMerkle"] else self.block.root
+        """The root of the list that is held, or of what was asked: a block's ids, the list behind it, that behind a diff."""
+        if name == "root" and self.held is not None:
+            return self.words.case.root_of_block(self.held)
+        if self.drafted is None:
+            raise Mistake("'right' is said of a list that is held, and of a root that a block or a diff was to tell")
+        return self.drafted.right(name, RULES[self.rule][0] if self.rule else None)
 
     def refused(self):
         word = self.words.next()
@@ -143,32 +219,30 @@ class Wanted:
     def hashes(self):
         if self.words.peek() == "the":
             return self.words.members()["members"]
-        found = []
-        while not self.words.is_done():
-            if found:
-                self.words.wants(",")
-            found.append(self.words.id())
-        return found
+        return [] if self.words.is_done() else self.words.ids()
 
     def listed(self):
         """The entries below the answer, in the order of their hashes."""
-        return sorted((entry for line in self.below for entry in self.entries(line)), key=lambda e: e["hash"])
+        return sorted((entry for line in self.words.below for entry in read_entries(line)), key=lambda e: e["hash"])
 
     def diff(self):
-        """'from HASH to HASH', behind a comma 'deleted' and the masternodes that are gone, and below it entries."""
+        """'from HASH to HASH', behind a comma 'deleted' and the masternodes that are gone, and below it entries; or 'right'."""
+        case = self.words.case
+        if self.words.takes("right"):
+            return diff_between(*(case.block_of(hash) for hash in case.last.hashes())).text()
         self.words.wants("from")
         base = self.words.hash()
         self.words.wants("to")
         target = self.words.hash()
-        state = next((state for state in self.words.case.states if state.hash == target and state.coinbase), None)
+        state = next((state for state in case.states if state.hash == target and state.coinbase), None)
         if state is None:
             raise Mistake("no block has this hash")
         gone = []
         if self.words.takes(","):
             self.words.wants("deleted")
             gone = self.hashes()
-        return (base + target + first_branch(list(state.ids)) + state.coinbase.text() + listed(sorted(gone))
-                + listed([entry_text(entry) for entry in self.listed()]))
+        entries = [entry_text(entry) for entry in self.listed()]
+        return Diff(base, target, *first_branch(list(state.ids)), state.coinbase, sorted(gone), entries).text()
 
     def commitments(self):
         found = []
@@ -177,67 +251,6 @@ class Wanted:
                 self.words.wants(",")
             found.append(commitment_text(self.words.name().values))
         return found
-
-    def entries(self, words):
-        """Entries of a list: that of a registration by its name, or those from one test registration to another, 'with'
-        what differs."""
-        txs = [words.name()]
-        if words.takes("to"):
-            first, last = int(words.words[words.at - 2]), words.number()
-            txs += [words.names[str(k)] for k in range(first + 1, last + 1)]
-        found = [{"hash": tx.id(), "confirmed": bytes(32), "banned": tx.values["service"] == NO_SERVICE,
-                  **{name: tx.values[name] for name in ("service", "operator", "voting")}} for tx in txs]
-        begin = words.at
-        for entry in found:
-            words.at = begin
-            if words.takes("with"):
-                while self.change(entry, words) and words.takes("and"):
-                    pass
-        words.ends()
-        return found
-
-    def change(self, told, words):
-        """What may differ from the registration in an entry or a row."""
-        if "paid" in told and self.change_row(told, words):
-            return True
-        for name, size in (("owner", 20), ("operator", 48), ("voting", 20)):
-            if name in told and words.takes(name):
-                told[name] = words.sized(size)
-                return True
-        if words.takes("confirmed"):
-            told["confirmed"] = words.hash()
-        elif words.takes("no", "operator"):
-            told["operator"] = bytes(48)
-        elif words.takes("no", "service"):
-            told["service"] = NO_SERVICE
-        elif words.takes("address"):
-            told["service"] = (words.address(), told["service"][1])
-        elif words.takes("port"):
-            told["service"] = (told["service"][0], words.number())
-        elif "paid" not in told and words.takes("banned"):
-            told["banned"] = True
-        elif "paid" not in told and words.takes("valid"):
-            told["banned"] = False
-        else:
-            return False
-        return True
-
-    def change_row(self, row, words):
-        for name in ("registered", "paid", "revived", "banned", "penalty", "reason", "reward"):
-            if words.takes(name):
-                row[name] = words.number()
-                return True
-        if words.takes("payout"):
-            row["payout"] = pay_of(words.script())
-        elif words.takes("operator", "payout"):
-            row["operator payout"] = pay_of(words.script())
-        elif words.takes("collateral"):
-            row["collateral"] = words.point()
-        elif words.takes("pays", "to"):
-            row["script"] = pay_of(words.script())
-        else:
-            return False
-        return True
 
     def row(self):
         """A row: that of a registration by its name, 'with' what differs."""
@@ -253,7 +266,7 @@ class Wanted:
                "collateral": (tx.id(), index) if own else values["collateral"],
                "script": pay_of(tx.outputs[index].script) if own else (0, bytes(20))}
         if words.takes("with"):
-            while self.change(row, words) and words.takes("and"):
+            while change_entry(row, words) and words.takes("and"):
                 pass
         numbers = b"".join(number(row[name], 4) for name in ("registered", "paid", "revived", "banned", "penalty"))
         return (tx.id() + row["confirmed"] + numbers + number(row["reason"], 2) + row["owner"] + row["operator"]

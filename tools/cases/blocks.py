@@ -6,7 +6,17 @@ from transactions import (Coinbase, Draft, Raw, changed, due_commitments, finish
 from wire import REVOKE, Tx, block_text, header_text, merkle_root, verdict_text
 from words import Mistake
 
-HEADER = ("version", "time", "bits", "nonce")
+NUMBERS = ("version", "time", "bits", "nonce")
+
+
+def read_field(words, fields):
+    """A field of a header, by its name; whether there is one."""
+    name = words.peek()
+    if name not in ("previous", "merkle") + NUMBERS:
+        return False
+    words.next()
+    fields[name] = words.number() if name in NUMBERS else words.hash()
+    return True
 
 
 class Block:
@@ -17,9 +27,7 @@ class Block:
         self.height = words.number()
         case.height = self.height
         self.hash = bytes([self.height % 256]) * 32
-        self.previous = case.tip().hash
-        self.merkle = None
-        self.header = {}
+        self.header = {"previous": case.tip().hash}
         self.coinbase = Coinbase(self.height)
         self.has_coinbase = True
         self.drafts = []
@@ -31,16 +39,8 @@ class Block:
     def change(self, words):
         if words.takes("hash"):
             self.hash = words.hash()
-        elif words.takes("previous"):
-            self.previous = words.hash()
-        elif words.takes("merkle"):
-            self.merkle = words.hash()
-        elif words.peek() in HEADER:
-            name = words.next()
-            self.header[name] = words.number()
-        else:
-            return False
-        return True
+            return True
+        return read_field(words, self.header)
 
     def items(self, words):
         self.item(words)
@@ -71,9 +71,12 @@ class Block:
         elif words.takes("no", "coinbase"):
             self.has_coinbase = False
         elif words.takes("another", "coinbase"):
+            name = words.next() if words.takes("as") else None
             other = changed(Coinbase(self.height), words)
             other.commit(bytes(32))
             self.drafts.append(other)
+            if name:
+                case.names[name] = other.tx
         elif words.takes("again"):
             self.drafts.append(Draft(words.name(), None))
         elif words.takes("transaction"):
@@ -130,7 +133,12 @@ class Block:
         self.after = working.state(self.hash)
         self.after.coinbase = txs[0] if txs else None
         self.after.ids = tuple(tx.id() for tx in txs)
-        merkle = self.ids_root if self.merkle is None else self.merkle
+        self.after.header = {"merkle": self.ids_root, **self.header}
         verdicts = [verdict_text(*verdict) for verdict in self.verdicts or verdicts]
-        return block_text(self.hash, header_text(self.previous, merkle, **self.header), [tx.text() for tx in txs],
-                          verdicts)
+        return block_text(self.hash, header_text(**self.after.header), [tx.text() for tx in txs], verdicts)
+
+    def right(self, name, rule):
+        """The root that the block should have told: that of its ids, or that of the list behind it."""
+        if name != "computed":
+            raise Mistake("'right' is said of a root that a block was to tell")
+        return self.ids_root if rule == "BadMerkle" else self.root

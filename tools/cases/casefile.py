@@ -5,7 +5,9 @@ from dataclasses import dataclass, field
 from answers import CONNECT, DIFF, DISCONNECT, LIST, PAGE, Wanted
 from disk import NAMES, Disk, audit_text, tip_text
 from model import KEPT
-from requests import Step, but, read_record, read_request
+from over_http import reply_of_words, reply_to, request_text, text_of_words
+from requests import WITH_ENTRIES, Step, but, read_record, read_request
+from wire import HEAD, ZERO_HASH
 from words import Mistake, Words
 
 # The statuses with which the program ends, and their exit codes.
@@ -14,12 +16,10 @@ CODES = {"Done": 0, "Words": 2, "Memory": 3, "DiskFault": 4, "LineFault": 5, "No
 # Those that tell a place.
 PLACED = ("NotJournal", "StartForm")
 # Words that later cases will need; until then no line begins with them.
-RESERVED = ("caller", "reply", "pieces")
+RESERVED = ("pieces",)
 PICKS = ("Before", "After", "Fill")
 AUDIT = ("height", "rows", "banned", "root", "records")
 COMMANDS = (CONNECT, DISCONNECT)
-# A frame's kind and length.
-HEAD = 5
 
 
 @dataclass
@@ -66,9 +66,18 @@ class Ask:
 
 
 @dataclass
+class Caller:
+    """A caller of 'serve': its line and its bytes, and the reply that is wanted."""
+    line: int
+    text: bytes
+    reply_line: int = 0
+    reply: bytes = None
+
+
+@dataclass
 class Run:
     """One run of the program: the files that are told before it, the words of its command line, which of its calls fail,
-    what is sent to it, how it ends, what a crash then leaves, and the files that are wanted."""
+    what is sent to it, or by its callers, how it ends, what a crash then leaves, and the files that are wanted."""
     line: int
     words: list
     files: dict = field(default_factory=dict)
@@ -78,6 +87,7 @@ class Run:
     each: list = field(default_factory=list)
     stand: Stand = None
     asks: list = field(default_factory=list)
+    callers: list = field(default_factory=list)
     pick: list = field(default_factory=list)
     becomes: dict = field(default_factory=dict)
     end_line: int = 0
@@ -86,13 +96,17 @@ class Run:
     is_over: bool = False
 
     def input(self):
-        return b"".join(ask.text for ask in self.asks)
+        return b"" if self.serves() else b"".join(ask.text for ask in self.asks)
 
     def output(self):
-        return b"".join(ask.answer or b"" for ask in self.asks)
+        return b"" if self.serves() else b"".join(ask.answer or b"" for ask in self.asks)
 
     def is_faulty(self):
         return bool(self.fails) or self.stop is not None
+
+    def serves(self):
+        """Whether it is a run of 'serve', whose requests come from callers, one each."""
+        return self.words[:1] == ["serve"]
 
 
 def lines_of(text):
@@ -121,6 +135,7 @@ class Case:
         self.profile = "small"
         self.first = 0
         self.states = []
+        self.blocks = {}
         self.top = 0
         self.height = 0
         self.updates = 0
@@ -134,8 +149,15 @@ class Case:
         """A registry that was made with this start record."""
         self.profile = record.profile
         self.first = record.state.height + 1
-        self.states = [record.state]
+        self.states = []
+        self.blocks = {}
+        self.keep(record.state)
         self.top = record.state.height
+
+    def keep(self, state):
+        """The state behind a block that was accepted. What was known of its hash stays until another block has it."""
+        self.states.append(state)
+        self.blocks[state.hash] = state
 
     def go_back(self):
         self.states.pop()
@@ -160,6 +182,18 @@ class Case:
         if found is None:
             raise Mistake("there is no block %d" % height)
         return found.hash
+
+    def block_of(self, block_hash):
+        """The state behind the block of this hash, which may have been taken back; none of zeros."""
+        if block_hash == ZERO_HASH:
+            return None
+        if block_hash not in self.blocks:
+            raise Mistake("no block of the case has the hash %s" % block_hash.hex())
+        return self.blocks[block_hash]
+
+    def root_of_block(self, block_hash):
+        state = self.block_of(block_hash)
+        return state.root() if state else ZERO_HASH
 
     def stand(self, state):
         """What stands with this state behind the tip, as many commands as are on the disk, and the top."""
@@ -210,6 +244,8 @@ class Case:
             raise Mistake("'%s' is kept for cases of later stages" % word)
         if word == "=":
             self.answer(line)
+        elif word in TEXTS:
+            TEXTS[word](self, line)
         elif word in LINES:
             words = Words(line.whole(), self)
             words.wants(word)
@@ -283,13 +319,41 @@ class Case:
             words.wants("at")
             run.at = words.number()
 
+    def words(self, line, has_entries):
+        """A line's words; those below it are a part of them, but where they are entries."""
+        return Words(line.text, self, [text for _, text in line.below]) if has_entries else Words(line.whole(), self)
+
+    def served(self, number):
+        """The run that goes on, which is one of 'serve'."""
+        run = self.run(number)
+        if not run.serves() or run.is_over:
+            raise Mistake("a caller stands in a run of 'serve'")
+        return run
+
+    def take_caller(self, line):
+        """'caller TEXT': a caller that sends this text."""
+        self.last = None
+        self.served(line.number).callers.append(Caller(line.number, text_of_words(line.whole().partition(" ")[2])))
+
+    def take_reply(self, line):
+        """'reply nothing', 'reply STATUS JSON' or 'reply TEXT': what the last caller is sent."""
+        callers = self.served(line.number).callers
+        if not callers or callers[-1].reply is not None:
+            raise Mistake("a reply stands behind its caller")
+        callers[-1].reply_line = line.number
+        callers[-1].reply = reply_of_words(line.whole().partition(" ")[2])
+
     def ask(self, line):
         run = self.run(line.number)
         if run.is_over:
             raise Mistake("files are told before the run that begins with them")
-        request = self.last = read_request(Words(line.whole(), self), self)
+        request = self.last = read_request(self.words(line, line.text.split()[0] == WITH_ENTRIES), self)
+        if run.serves() and (request.kind is None or request.steps):
+            raise Mistake("a caller asks for one request")
         steps = request.steps or [Step(line.whole(), request.text)]
         run.asks += [Ask(line.number, step.words, request.kind, step.text, after=step.after) for step in steps]
+        if run.serves():
+            run.callers.append(Caller(line.number, request_text(request.kind, request.text[HEAD:])))
 
     def answer(self, line):
         run = self.run(line.number)
@@ -303,6 +367,9 @@ class Case:
         for ask, answer in zip(asks, wanted):
             ask.answer_line, ask.answer = line.number, answer
             self.answers[ask.text] = answer
+        if run.serves():
+            caller = run.callers[-1]
+            caller.reply_line, caller.reply = line.number, reply_to(asks[-1].kind, asks[-1].text[HEAD:], answer) if answer else b""
         if answer[:1] == b"\0":
             self.accept(asks)
 
@@ -355,7 +422,7 @@ class Case:
     def wanted(self, line):
         """The answers to what was asked last. Below that to a list stand its entries."""
         has_entries = self.last.kind in (LIST, PAGE, DIFF) and not line.text.startswith("= bytes")
-        words = Words(line.text if has_entries else line.whole(), self)
+        words = self.words(line, has_entries)
         words.wants("=")
         if self.last.steps:
             words.wants("each", "Ok")
@@ -364,8 +431,7 @@ class Case:
         if words.takes("as", "before"):
             words.ends()
             return [self.answered_before(self.last.text)]
-        below = [Words(text, self) for _, text in line.below] if has_entries else []
-        return [Wanted(words, below, self.last.kind, self.last.block).frame()]
+        return [Wanted(words, self.last.kind, self.last.drafted).frame()]
 
     def answered_before(self, text):
         if text not in self.answers:
@@ -380,9 +446,13 @@ class Case:
             for ask in run.asks:
                 if ask.answer is None and ask.kind is not None and needs_answers:
                     raise Mistake("line %d: no answer is told" % ask.line)
+            for caller in run.callers:
+                if caller.reply is None and needs_answers:
+                    raise Mistake("line %d: no reply is told" % caller.line)
             run.end_line = run.end_line or self.line
 
 
+TEXTS = {"caller": Case.take_caller, "reply": Case.take_reply}
 LINES = {"run": Case.take_run, "start": Case.take_start, "file": Case.take_file, "stop": Case.take_stop,
          "fails": Case.take_fails, "pick": Case.take_pick, "ends": Case.take_ends}
 

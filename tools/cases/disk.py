@@ -8,6 +8,9 @@ PATHS = tuple("%s.dmn" % name for name in NAMES)
 MAGIC = b"DMNJ001"
 CLOSED = b"\0"
 OPEN = b"\1"
+CONNECT = 1
+# Behind so many records a block's connect writes a snapshot first, by the number of the profile.
+EVERY = {1: 8, 2: 288}
 
 
 def header_text(record):
@@ -31,12 +34,15 @@ def tip_text(state, low, top):
 
 class Disk:
     """The files, each None where it is not known, and the place of the journal's closed gate, None where that is not
-    known."""
+    known. What a snapshot holds is not known here: its file is not known any more."""
 
     def __init__(self):
         self.texts = [b"", b"", b""]
         self.gate = None
         self.records = 0
+        self.every = None
+        self.newest = None
+        self.snapped = 0
 
     def begin(self, record):
         """A journal with this start record and no command."""
@@ -44,6 +50,9 @@ class Disk:
         self.texts = [header + CLOSED, b"", b""]
         self.gate = len(header)
         self.records = 0
+        self.every = EVERY.get(record[2])
+        self.newest = None
+        self.snapped = 0
 
     def hold(self, file, text):
         """The file is to have this text. The journal's gate stays known where what stands before it is as it was."""
@@ -58,8 +67,16 @@ class Disk:
         if file == 0 and self.gate is not None and text[self.gate:self.gate + 1] in (b"", OPEN):
             self.gate = None
 
+    def snap(self):
+        """A snapshot in the file that has not the newest one."""
+        self.newest = 2 if self.newest == 1 else 1
+        self.texts[self.newest] = None
+        self.snapped = self.records
+
     def append(self, kind, body):
-        """A command's record at the closed gate, and a closed gate behind it."""
+        """A command's record at the closed gate, and a closed gate behind it, behind a snapshot where one is due."""
+        if kind == CONNECT and self.every is not None and self.records - self.snapped >= self.every:
+            self.snap()
         record = number(len(body) + 1, 4) + number(kind, 1) + body
         text = self.texts[0]
         if text is not None and self.gate is not None:

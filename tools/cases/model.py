@@ -69,9 +69,10 @@ class State:
     rows: dict = field(default_factory=dict)
     outputs: dict = field(default_factory=dict)
     mined: frozenset = frozenset()
-    # the first transaction of the block, and the ids of all
+    # the first transaction of the block, the ids of all, and the fields of its header
     coinbase: object = None
     ids: tuple = ()
+    header: dict = field(default_factory=dict)
 
     def root(self):
         return list_root([row.entry() for row in self.rows.values()])

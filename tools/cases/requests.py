@@ -2,10 +2,12 @@
 
 from dataclasses import dataclass
 
-from answers import CONNECT, DIFF, DISCONNECT, LIST, MEMBERS, PAGE, PAYEES, PIN, QUORUMS, RELEASE, ROW, TIP
+from answers import (APPLY, CONNECT, DIFF, DISCONNECT, HEADER, LIST, MEMBERS, PAGE, PAYEES, PIN, QUORUMS, RELEASE, ROW, SHOW,
+                     TIP)
 from blocks import Block
+from diffs import Handed, Header
 from model import PROFILES, State
-from wire import frame, number, pay_of, pay_text, point_text
+from wire import HASH_SIZE, HEAD, frame, number, pay_of, pay_text, point_text
 from words import Mistake, Words, bytes_of
 
 
@@ -27,17 +29,23 @@ class Record:
 
 
 class Request:
-    """A request: its kind, its bytes on the line, and what follows for the case where it is answered Ok. Where its words
-    stand for several requests, each of which is to be answered Ok, these are its steps. What 'init' reads is a record."""
+    """A request: its kind, its bytes on the line, the block or the diff as its words drafted it, and what follows for the case
+    where it is answered Ok. Where its words stand for several requests, each of which is to be answered Ok, these are its
+    steps. What 'init' reads is a record."""
 
-    def __init__(self, kind, text, block=None, accepted=None, steps=(), record=None):
+    def __init__(self, kind, text, drafted=None, accepted=None, steps=(), record=None):
         self.kind = kind
         self.text = text
-        self.block = block
+        self.drafted = drafted
+        self.block = drafted if isinstance(drafted, Block) else None
         self.moves = accepted is not None
         self.accepted = accepted or (lambda: None)
         self.steps = list(steps)
         self.record = record
+
+    def hashes(self):
+        """The hashes of a body that has nothing else."""
+        return [self.text[at:at + HASH_SIZE] for at in range(HEAD, len(self.text), HASH_SIZE)]
 
 
 def read_record(words):
@@ -60,7 +68,7 @@ def read_record(words):
 
 def block(words, case):
     drafted = Block(words, case)
-    return CONNECT, drafted.finish(), drafted, lambda: case.states.append(drafted.after)
+    return CONNECT, drafted.finish(), drafted, lambda: case.keep(drafted.after)
 
 
 def connect(words, _):
@@ -69,6 +77,15 @@ def connect(words, _):
 
 def disconnect(words, case):
     return DISCONNECT, words.hash(), None, case.go_back
+
+
+def header(words, case):
+    return HEADER, Header(words, case).body(), None, None
+
+
+def apply(words, case):
+    handed = Handed(words, case)
+    return APPLY, handed.diff.text(), handed, None
 
 
 def frame_of(words, _):
@@ -84,11 +101,13 @@ def fields(kind, *sizes):
 
 
 READERS = {
-    "block": block, "connect": connect, "disconnect": disconnect, "frame": frame_of,
+    "block": block, "connect": connect, "disconnect": disconnect, "frame": frame_of, "header": header, "apply": apply,
     "tip": fields(TIP), "list": fields(LIST, 4), "row": fields(ROW, 4, 32), "payees": fields(PAYEES, 4, 2),
     "members": fields(MEMBERS, 1, 4), "quorums": fields(QUORUMS, 4), "diff": fields(DIFF, 32, 32),
-    "pin": fields(PIN, 4), "page": fields(PAGE, 4, 4, 2), "release": fields(RELEASE, 4),
+    "pin": fields(PIN, 4), "page": fields(PAGE, 4, 4, 2), "release": fields(RELEASE, 4), "show": fields(SHOW),
 }
+# A request of which the lines below it are entries.
+WITH_ENTRIES = "apply"
 
 
 def moves_to(state, words, kind, body):
@@ -106,7 +125,7 @@ def blocks(words, case):
         said = "%d%s: duties" % (height, " with hash %s" % (number(height, 4) * 8).hex() if is_long else "")
         drafted = Block(Words(said, case), case)
         body = drafted.finish()
-        case.states.append(drafted.after)
+        case.keep(drafted.after)
         yield moves_to(drafted.after, "block " + said, CONNECT, body)
 
 
@@ -119,7 +138,16 @@ def disconnects(words, case):
         yield moves_to(case.tip(), "disconnect block %d" % gone.height, DISCONNECT, gone.hash)
 
 
-REPEATED = {"blocks": (CONNECT, blocks), "disconnects": (DISCONNECT, disconnects)}
+def headers(words, case):
+    """'headers FIRST to LAST': the header of each block of the branch between these heights."""
+    first = words.number()
+    words.wants("to")
+    for height in range(first, words.number() + 1):
+        said = "block %d" % height
+        yield Step("header " + said, frame(HEADER, Header(Words(said, case), case).body()), frame(0, b""))
+
+
+REPEATED = {"blocks": (CONNECT, blocks), "disconnects": (DISCONNECT, disconnects), "headers": (HEADER, headers)}
 
 
 def but(words, body):
@@ -161,4 +189,6 @@ def read_request(words, case):
     while words.takes(",", "but"):
         body = but(words, body)
     words.ends()
+    if isinstance(drafted, Handed):
+        drafted.hands(body)
     return Request(kind, frame(kind, body), drafted, accepted)

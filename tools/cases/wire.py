@@ -5,7 +5,10 @@ Numbers are little endian, but for a port. Nothing here judges: any value is wri
 import hashlib
 from dataclasses import dataclass, field
 
-ZERO_HASH = bytes(32)
+HASH_SIZE = 32
+ZERO_HASH = bytes(HASH_SIZE)
+# A frame's kind and length.
+HEAD = 5
 NO_INDEX = 0xFFFFFFFF
 SEQUENCE = 0xFFFFFFFF
 COLLATERAL = 100_000_000_000
@@ -184,16 +187,25 @@ def merkle_root(hashes):
     return hashes[0]
 
 
+def tree_depth(total):
+    """How many levels stand above so many hashes."""
+    return (total - 1).bit_length()
+
+
+def branch_flags(total):
+    """A bit 1 for each hash of the branch of the first of so many, and then a bit 0 for each sibling, the lowest first."""
+    depth = tree_depth(total)
+    return number((1 << depth + 1) - 1, (2 * depth + 8) // 8)
+
+
 def first_branch(hashes):
-    """The text of the branch that proves the first of these hashes: their count, it and its right siblings, and flags."""
+    """The branch that proves the first of these hashes: their count, it and its right siblings, and flags."""
     branch, level = hashes[:1], hashes
     while len(level) > 1:
         branch.append(level[1])
         pairs = level + level[-1:] if len(level) % 2 else level
         level = [dsha(pairs[n] + pairs[n + 1]) for n in range(0, len(pairs), 2)]
-    depth = len(branch) - 1
-    flags = number((1 << depth + 1) - 1, (2 * depth + 8) // 8)
-    return number(len(hashes), 4) + listed(branch) + blob(flags)
+    return len(hashes), branch, branch_flags(len(hashes))
 
 
 def entry_text(e):
@@ -208,7 +220,7 @@ def list_root(entries):
 
 # ---- blocks
 
-def header_text(previous, merkle, version=1, time=0, bits=0, nonce=0):
+def header_text(merkle, previous=ZERO_HASH, version=1, time=0, bits=0, nonce=0):
     return number(version, 4) + previous + merkle + number(time, 4) + number(bits, 4) + number(nonce, 4)
 
 

@@ -48,14 +48,15 @@ def sized(word, size):
 
 
 class Words:
-    """The words of one line, read from the left. Names are those of the case's transactions; its states tell the hashes of
-    its blocks."""
+    """The words of one line, read from the left, and lines below it, where these are lines of their own. Names are those of
+    the case's transactions; its states tell the hashes of its blocks."""
 
-    def __init__(self, text, case):
+    def __init__(self, text, case, below=()):
         self.words = split(text)
         self.at = 0
         self.names = case.names
         self.case = case
+        self.below = [Words(line, case) for line in below]
 
     def is_done(self):
         return self.at == len(self.words)
@@ -129,6 +130,14 @@ class Words:
             return sized(word, 32)
         except Mistake:
             raise Mistake("'%s' is neither a transaction of the case nor a hash" % word) from None
+
+    def ids(self):
+        """Ids with a comma between two of them."""
+        found = [self.id()]
+        while self.peek() == "," and self.peek(1) != "but":
+            self.wants(",")
+            found.append(self.id())
+        return found
 
     def hash(self):
         """'of NAME' for a transaction's id, 'digest of HEX' for that of a key, 'digest of the members of NAME' for that of

@@ -12,6 +12,8 @@
 //!     each stop, each fail       the run is also made once for each of its calls, which stops it, or fails alone
 //!     in LINE BYTES              bytes that are sent
 //!     out LINE BYTES             bytes that are wanted
+//!     caller LINE BYTES          the next caller sends these bytes
+//!     reply LINE BYTES           and this is what it is to be sent
 //!     stand LINE N STATUS BYTES  behind N answers and the input before this line, what an audit and a Tip send; and how a
 //!                                run of the same words on the rest ends. Told for each command of a run that is so made
 //!     pick Before, pick After, pick Fill BYTE    what of the writes that aren't synced is there behind the run
@@ -138,6 +140,8 @@ impl Cases {
             "each" => self.run.each.push(each_of(rest)?)?,
             "in" => self.add_input(rest)?,
             "out" => self.add_wanted(rest)?,
+            "caller" => self.add_caller(rest)?,
+            "reply" => self.add_reply(rest)?,
             "stand" => self.add_stand(rest)?,
             "pick" => self.run.pick = pick_of(rest)?,
             "becomes" => self.add_text(rest)?,
@@ -192,6 +196,20 @@ impl Cases {
         let (line, words) = numbered(rest)?;
         let bytes = bytes_of(self.alloc, words)?;
         self.run.wanted.push(Wanted { line, bytes })?;
+        Ok(())
+    }
+
+    fn add_caller(&mut self, rest: &str) -> Result<(), Trouble> {
+        let (_, words) = numbered(rest)?;
+        let text = bytes_of(self.alloc, words)?;
+        self.run.callers.push(text)?;
+        Ok(())
+    }
+
+    fn add_reply(&mut self, rest: &str) -> Result<(), Trouble> {
+        let (line, words) = numbered(rest)?;
+        let bytes = bytes_of(self.alloc, words)?;
+        self.run.replies.push(Wanted { line, bytes })?;
         Ok(())
     }
 

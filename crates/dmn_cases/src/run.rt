@@ -37,8 +37,8 @@ pub enum Each {
 }
 
 /// A run: the words of its command line, the numbers of the calls that fail and of the one at which it stops, whether they
-/// count from the opening, its input, and what is wanted: answers, what may stand behind each of its calls, and the files that
-/// a crash leaves.
+/// count from the opening, its input, its callers, and what is wanted: answers, the reply to each caller, what may stand behind
+/// each of its calls, and the files that a crash leaves.
 #[derive(Drop)]
 pub struct Run {
     pub words: Vec<String>,
@@ -47,7 +47,9 @@ pub struct Run {
     pub stop: Option<u64>,
     pub each: Vec<Each>,
     pub input: Bytes,
+    pub callers: Vec<Bytes>,
     pub wanted: Vec<Wanted>,
+    pub replies: Vec<Wanted>,
     pub stands: Vec<Stand>,
     pub pick: Pick,
     pub files: Vec<WantedFile>,
@@ -64,8 +66,23 @@ pub fn station_of(
     fails: Vec<u64>,
     stop: Option<u64>,
 ) -> Result<MemoryStation, Trouble> {
+    station_with(alloc, image, input, &[], fails, stop)
+}
+
+/// A station with these files, this input, and these callers behind it.
+pub fn station_with(
+    alloc: Global,
+    image: &Image,
+    input: &[u8],
+    others: &[Bytes],
+    fails: Vec<u64>,
+    stop: Option<u64>,
+) -> Result<MemoryStation, Trouble> {
     let mut callers = Vec::new(alloc);
     callers.push(Bytes::from_slice(alloc, input)?)?;
+    for text in others {
+        callers.push(Bytes::from_slice(alloc, text.as_slice())?)?;
+    }
     Ok(MemoryStation::new(alloc, copy_of(alloc, image)?, callers, fails, stop))
 }
 
@@ -143,7 +160,9 @@ impl Run {
             stop: None,
             each: Vec::new(alloc),
             input: Bytes::new(alloc),
+            callers: Vec::new(alloc),
             wanted: Vec::new(alloc),
+            replies: Vec::new(alloc),
             stands: Vec::new(alloc),
             pick: Pick::Before,
             files: Vec::new(alloc),
@@ -180,6 +199,27 @@ impl Run {
         }
     }
 
+    // The first caller that was sent anything but its reply.
+    fn compare_replies(
+        &self,
+        alloc: Global,
+        station: &MemoryStation,
+    ) -> Result<Option<Difference>, Trouble> {
+        let mut caller: u64 = 0;
+        for wanted in &self.replies {
+            caller = caller.saturating_add(1);
+            let came = station.sent(caller);
+            if came != wanted.bytes.as_slice() {
+                return Ok(Some(Difference {
+                    line: wanted.line,
+                    wanted: shown(alloc, wanted.bytes.as_slice())?,
+                    came: shown(alloc, came)?,
+                }));
+            }
+        }
+        Ok(None)
+    }
+
     // The first of the files that is another than is wanted.
     fn compare_files(&self, alloc: Global, image: &Image) -> Result<Option<Difference>, Trouble> {
         for wanted in &self.files {
@@ -188,6 +228,25 @@ impl Run {
             }
         }
         Ok(None)
+    }
+
+    // The first that is not as wanted: a reply, an answer, how it ended, or a file.
+    fn first_difference(
+        &self,
+        alloc: Global,
+        station: &MemoryStation,
+        left: &Image,
+        status: Status,
+        end_line: u64,
+        end: &str,
+    ) -> Result<Option<Difference>, Trouble> {
+        if let Some(difference) = self.compare_replies(alloc, station)? {
+            return Ok(Some(difference));
+        }
+        match self.compare(alloc, 0, station, status, end_line, end)? {
+            Some(difference) => Ok(Some(difference)),
+            None => self.compare_files(alloc, left),
+        }
     }
 
     /// Makes the run on these files, says where it does not go as wanted, and gives the files that it leaves.
@@ -200,13 +259,11 @@ impl Run {
     ) -> Result<(Option<Difference>, Image), Trouble> {
         self.count_from_the_first(alloc, image)?;
         let fails = self.fails.to_vec(alloc)?;
-        let mut station = station_of(alloc, image, self.input.as_slice(), fails, self.stop)?;
+        let input = self.input.as_slice();
+        let mut station = station_with(alloc, image, input, &self.callers, fails, self.stop)?;
         let status = dmn_main(alloc, &self.words, &mut station);
         let left = station.image(alloc, self.pick)?;
-        let found = match self.compare(alloc, 0, &station, status, end_line, end)? {
-            Some(difference) => Some(difference),
-            None => self.compare_files(alloc, &left)?,
-        };
+        let found = self.first_difference(alloc, &station, &left, status, end_line, end)?;
         Ok((found, left))
     }
 }

@@ -13,7 +13,7 @@ use Rattle.dmn_rows.specs.declared.rule.Rule.TheVariants.{ZeroHash, HashKnown}
 use Rattle.dmn_branch.specs.declared.fault.PrepareFault.{PrepareFault}
 use Rattle.dmn_branch.specs.declared.fault.PrepareFault.TheVariants as faults
 use Rattle.dmn_branch.specs.Coinbases.{coinbase_of, part_in, part_of}
-use Rattle.dmn_branch.specs.declared.coinbase.CoinbasePart.{CoinbasePart}
+use Rattle.dmn_held.specs.declared.coinbase.CoinbasePart.{CoinbasePart}
 use Rattle.dmn_branch.specs.Fault.{Tells, TellsRule}
 use Rattle.dmn_branch.specs.Machine as machine
 use Rattle.dmn_branch.specs.Machine.{MachineState, hash_rules, broken_hash, connect, with_block, tip}

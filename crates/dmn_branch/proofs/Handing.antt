@@ -1,11 +1,12 @@
 -- What a branch tells for a snapshot holds its machine.
-use Rattle.std.proofs.Common.{◌≡◌, ℕ, zero, suc, ◌+◌, ◌-◌, ◌<◌, ◌≤◌, Bool, true, false, cond, List, [], ◌∷◌, ◌++◌, length, get_or, drop, map, Option, Some, refl, sym, ap, ◌∙◌, subst, arith, ◌⊎◌, inl, inr}
-use Rattle.std.specs.Prelude.{◌==◌, ◌&&◌, filter, nat_le, slice_get, IfOk, Result, Ok, Err}
+use Rattle.std.proofs.Common.{◌≡◌, ℕ, zero, suc, ◌+◌, ◌-◌, ◌<◌, ◌≤◌, Bool, true, false, cond, List, [], ◌∷◌, ◌++◌, length, get_or, drop, find, map, Option, Some, refl, sym, ap, ◌∙◌, subst, arith, ◌⊎◌, inl, inr}
+use Rattle.std.specs.Prelude.{◌==◌, ◌&&◌, filter, nat_le, slice_get, is_some, IfOk, IsSome, Result, Ok, Err}
 use Rattle.std.specs.List.{All, AllByRecursion, flat_map}
 use Rattle.std.proofs.lemmas.Bool.{eq-eqb, eqb-true, le-leb, leb-false, leb-true, lt-leb, ne_eqb}
 use Rattle.std.proofs.lemmas.List.Elements.{All-from_recursion, filter-append}
 use Rattle.dmn_block.specs.State.{State}
 use Rattle.dmn_bytes.specs.declared.hash.Hash256.{Hash256}
+use Rattle.dmn_bytes.specs.declared.points.OutPoint.{OutPoint}
 use Rattle.dmn_bytes.specs.Points.{is_zero}
 use Rattle.dmn_held.specs.declared.data.HeightData.{HeightData}
 use Rattle.dmn_held.specs.declared.data.SnapshotData.{SnapshotData}
@@ -14,21 +15,22 @@ use Rattle.dmn_indexes.specs.declared.indexes.Indexes.{Indexes}
 use Rattle.dmn_payloads.specs.declared.commitment.Commitment.{Commitment}
 use Rattle.dmn_payloads.specs.declared.mined.MinedAt.{MinedAt}
 use Rattle.dmn_quorums.specs.Duty.{active_at, all_active_at, is_of, last, mined_at, types_of}
-use Rattle.dmn_restore.specs.Lists.{lists_behind, lists_of, next_list}
+use Rattle.dmn_restore.specs.Lists.{lists_behind, lists_of, lowest_list, next_list}
 use Rattle.dmn_restore.specs.Proper.{AreProper, IsProper}
 use Rattle.dmn_restore.specs.Restored.{listing_in}
 use Rattle.dmn_rows.specs.declared.profile.Profile.{Profile}
 use Rattle.dmn_rows.specs.declared.profile.QuorumParams.{QuorumParams}
 use Rattle.dmn_rows.specs.Listing.{Listing}
-use Rattle.dmn_rows.specs.Rows.{plain_rows}
-use Rattle.dmn_branch.specs.declared.coinbase.CoinbasePart.{CoinbasePart}
+use Rattle.dmn_rows.specs.Rows.{has_hash, has_point, plain_rows}
+use Rattle.dmn_held.specs.declared.coinbase.CoinbasePart.{CoinbasePart}
 use Rattle.dmn_branch.specs.declared.held.Held.{Held}
 use Rattle.dmn_branch.specs.Coinbases.{coinbase_of}
-use Rattle.dmn_branch.specs.Holds.{AllGive, Gives, Holds, Reading, lowest, next_reading, part_if, readings_behind}
+use Rattle.dmn_branch.specs.Holds.{AllGive, Gives, Holds, Reading, lowest, next_reading, readings_behind}
+use Rattle.dmn_branch.specs.Lean.{AreLean, IsLean, has_type}
 use Rattle.dmn_branch.specs.Machine as machine
 use Rattle.dmn_branch.specs.Machine.{MachineState, held_states, tip}
 use Rattle.dmn_branch.specs.Stands.{AllStand, AreSound, GivesActive, IsKept, IsWhole, Keeping, Kept, MinedFrom, StandsAt, StandsFor, kept_in, lists_in, low_kept}
-use Rattle.dmn_branch.specs.Telling.{AreChanges, IsChange, IsTellable, IsTold, commitments_at}
+use Rattle.dmn_branch.specs.Telling.{AreChanges, IsChange, IsTellable, IsTold, commitments_at, is_at}
 use Rattle.dmn_branch.proofs.Active.{MinedTo, from_lower, is_kind, last_alike, mined_to, of_all, to_higher}
 use Rattle.dmn_branch.proofs.Every.{every_append, every_both, every_drop, every_then}
 use Rattle.dmn_branch.proofs.Gathering.{PicksEach, last_twice, picks_each}
@@ -40,18 +42,35 @@ use Rattle.dmn_branch.proofs.Standing.{low_is, tip_height}
 abbrev is_here : QuorumParams → ℕ → MinedAt → Bool
 is_here p height m = is_kind p m && (m.height == height)
 
-here_filtered : (p : QuorumParams) (height : ℕ) (mined : List MinedAt) → filter (is_of p height) (mined_at height (commitments_at height mined)) ≡ filter (is_here p height) mined
-here_filtered p height [] = refl
-here_filtered p height (m ∷ mined) = go (is_kind p m) (m.height == height) refl refl (here_filtered p height mined)
+-- a commitment of this kind is of one of these types
+abbrev HasItsType : List (Option QuorumParams) → QuorumParams → Type 0
+HasItsType quorums p = (c : Commitment) → (c.kind == p.kind) ≡ true → has_type quorums c ≡ true
+
+found_among : (types : List QuorumParams) → AllByRecursion (λ (p : QuorumParams). (kind : ℕ) → (kind == p.kind) ≡ true → is_some (find (λ (q : QuorumParams). q.kind == kind) types) ≡ true) types
+found_among [] = tt
+found_among (p ∷ types) = (
+  λ kind same. ap (λ (b : Bool). is_some (cond b (Some p) (find (λ (q : QuorumParams). q.kind == kind) types))) (eq-eqb p.kind kind (sym (eqb-true kind p.kind same))),
+  every_then (λ (r : QuorumParams) (found : (kind : ℕ) → (kind == r.kind) ≡ true → is_some (find (λ (q : QuorumParams). q.kind == kind) types) ≡ true).
+      λ (kind : ℕ) same. elim (p.kind == kind) as (λ (b : Bool). is_some (cond b (Some p) (find (λ (q : QuorumParams). q.kind == kind) types)) ≡ true) [ true ↦ refl | false ↦ found kind same ]) types (found_among types),
+)
+
+have_types : (quorums : List (Option QuorumParams)) → AllByRecursion (HasItsType quorums) (types_of quorums)
+have_types quorums = every_then (λ (p : QuorumParams) (found : (kind : ℕ) → (kind == p.kind) ≡ true → is_some (find (λ (q : QuorumParams). q.kind == kind) (types_of quorums)) ≡ true). λ (c : Commitment) same. found c.kind same) (types_of quorums) (found_among (types_of quorums))
+
+here_filtered : (quorums : List (Option QuorumParams)) (p : QuorumParams) → HasItsType quorums p → (height : ℕ) (mined : List MinedAt) → filter (is_of p height) (mined_at height (commitments_at quorums height mined)) ≡ filter (is_here p height) mined
+here_filtered quorums p has height [] = refl
+here_filtered quorums p has height (m ∷ mined) = go (is_kind p m) (m.height == height) (has_type quorums m.commitment) refl refl refl (here_filtered quorums p has height mined)
   where
-    go : (k h : Bool) → is_kind p m ≡ k → (m.height == height) ≡ h → filter (is_of p height) (mined_at height (commitments_at height mined)) ≡ filter (is_here p height) mined → filter (is_of p height) (mined_at height (commitments_at height (m ∷ mined))) ≡ filter (is_here p height) (m ∷ mined)
-    go true false a b rest = rw (b, a) rest
-    go false false a b rest = rw (b, a) rest
-    go false true a b rest = rw (b, a) rest
-    go true true a b rest =
+    go : (k h t : Bool) → is_kind p m ≡ k → (m.height == height) ≡ h → has_type quorums m.commitment ≡ t → filter (is_of p height) (mined_at height (commitments_at quorums height mined)) ≡ filter (is_here p height) mined → filter (is_of p height) (mined_at height (commitments_at quorums height (m ∷ mined))) ≡ filter (is_here p height) (m ∷ mined)
+    go true false t a b e rest = rw (b, a) rest
+    go false false t a b e rest = rw (b, a) rest
+    go false true true a b e rest = rw (b, e, a) rest
+    go false true false a b e rest = rw (b, e, a) rest
+    go true true false a b e rest = let no : true ≡ false = sym (has m.commitment a) ∙ e in absurd cc
+    go true true true a b e rest =
         let same : nat_le height height ≡ true = le-leb height height (omega arith) in
         let is : m.height ≡ height = eqb-true m.height height b in
-        rw (b, a, same) (ap (λ (n : ℕ). (record { height = n; commitment = m.commitment }) ∷ filter (is_of p height) (mined_at height (commitments_at height mined))) (sym is) ∙ ap (λ (l : List MinedAt). m ∷ l) rest)
+        rw (b, e, a, same) (ap (λ (n : ℕ). (record { height = n; commitment = m.commitment }) ∷ filter (is_of p height) (mined_at height (commitments_at quorums height mined))) (sym is) ∙ ap (λ (l : List MinedAt). m ∷ l) rest)
 
 from_skip : (p : QuorumParams) (least tip : ℕ) (m : MinedAt) (mined : List MinedAt) → MinedFrom least (filter (is_of p tip) (m ∷ mined)) → MinedFrom least (filter (is_of p tip) mined)
 from_skip p least tip m mined from = go (is_of p tip m) from
@@ -103,15 +122,15 @@ one_more p least height tip (m ∷ mined) le from = go (is_kind p m) refl (where
         let other : (m.height == suc height) ≡ false = ne_eqb m.height (suc height) (λ (is : m.height ≡ suc height). omega (arith, is, above)) in
         rw (a, up, at, other) rest
 
-abbrev new_at : ℕ → List MinedAt → List MinedAt
-new_at height mined = mined_at height (commitments_at height mined)
+abbrev new_at : List (Option QuorumParams) → ℕ → List MinedAt → List MinedAt
+new_at quorums height mined = mined_at height (commitments_at quorums height mined)
 
-active_step : (p : QuorumParams) (height tip : ℕ) (mined R : List MinedAt) → suc height ≤ tip → MinedFrom 0 (filter (is_of p tip) mined) → MinedTo height R → active_at R p height ≡ active_at mined p height → active_at (R ++ new_at (suc height) mined) p (suc height) ≡ active_at mined p (suc height)
-active_step p height tip mined R le from to same =
-    let N = new_at (suc height) mined in
+active_step : (quorums : List (Option QuorumParams)) (p : QuorumParams) → HasItsType quorums p → (height tip : ℕ) (mined R : List MinedAt) → suc height ≤ tip → MinedFrom 0 (filter (is_of p tip) mined) → MinedTo height R → active_at R p height ≡ active_at mined p height → active_at (R ++ new_at quorums (suc height) mined) p (suc height) ≡ active_at mined p (suc height)
+active_step quorums p has height tip mined R le from to same =
+    let N = new_at quorums (suc height) mined in
     let front : filter (is_of p (suc height)) R ≡ filter (is_of p height) R = of_all p (suc height) R (to_higher height (suc height) R (omega arith) to) ∙ sym (of_all p height R to) in
     let left : filter (is_of p (suc height)) (R ++ N) ≡ filter (is_of p height) R ++ filter (is_of p (suc height)) N = filter-append (is_of p (suc height)) R N ∙ ap (λ (l : List MinedAt). l ++ filter (is_of p (suc height)) N) front in
-    let right : filter (is_of p (suc height)) mined ≡ filter (is_of p height) mined ++ filter (is_of p (suc height)) N = one_more p 0 height tip mined le from ∙ ap (λ (l : List MinedAt). filter (is_of p height) mined ++ l) (sym (here_filtered p (suc height) mined)) in
+    let right : filter (is_of p (suc height)) mined ≡ filter (is_of p height) mined ++ filter (is_of p (suc height)) N = one_more p 0 height tip mined le from ∙ ap (λ (l : List MinedAt). filter (is_of p height) mined ++ l) (sym (here_filtered quorums p has (suc height) mined)) in
     ap (last p.active) left ∙ last_alike p.active (filter (is_of p height) R) (filter (is_of p height) mined) (filter (is_of p (suc height)) N) same ∙ sym (ap (last p.active) right)
 
 -- ---- what is read of each height gives its state
@@ -120,12 +139,12 @@ abbrev SameActive : Profile → List MinedAt → List MinedAt → ℕ → Type 0
 SameActive profile R mined height = AllByRecursion (λ (p : QuorumParams). active_at R p height ≡ active_at mined p height) (types_of profile.quorums)
 
 abbrev AreOrdered : Profile → ℕ → List MinedAt → Type 0
-AreOrdered profile tip mined = AllByRecursion (λ (p : QuorumParams). MinedFrom 0 (filter (is_of p tip) mined)) (types_of profile.quorums)
+AreOrdered profile tip mined = AllByRecursion (λ (p : QuorumParams). HasItsType profile.quorums p × MinedFrom 0 (filter (is_of p tip) mined)) (types_of profile.quorums)
 
 abbrev GiveEach : Profile → List MinedAt → List State → Type 0
 GiveEach profile mined states = AllByRecursion (λ (p : QuorumParams). AllByRecursion (λ (s : State). active_at mined p s.height ≡ active_at s.mined p s.height) states) (types_of profile.quorums)
 
-gives_one : (profile : Profile) (ix : Indexes) (mined : List MinedAt) (height : ℕ) (h : Held) (r : Reading) (s : State) (states : List State) → r.hash ≡ h.hash → part_if r.coinbase ≡ h.coinbase → r.list ≡ listing_in ix h.version → SameActive profile r.mined mined height
+gives_one : (profile : Profile) (ix : Indexes) (mined : List MinedAt) (height : ℕ) (h : Held) (r : Reading) (s : State) (states : List State) → r.hash ≡ h.hash → r.coinbase ≡ h.coinbase → r.list ≡ listing_in ix h.version → SameActive profile r.mined mined height
     → StandsAt (kept_in ix height h) s → h.coinbase ≡ coinbase_of s → GiveEach profile mined (s ∷ states) → Gives profile r s
 gives_one profile ix mined height h r s states hash coinbase list same stands part gives = record {
   hash = hash ∙ stands.hash;
@@ -137,7 +156,7 @@ gives_one profile ix mined height h r s states hash coinbase list same stands pa
 }
 
 gives_behind : (profile : Profile) (ix : Indexes) (mined : List MinedAt) (tip height : ℕ) (before : Held) (r : Reading) (rest : List Held) (heights : List HeightData) (states : List State) → r.list ≡ listing_in ix before.version → MinedTo height r.mined → SameActive profile r.mined mined height → AreOrdered profile tip mined
-    → height + length rest ≤ tip → AreChanges ix height mined before rest heights → AllStand (lists_in ix (suc height) rest) states → map (λ (h : Held). h.coinbase) rest ≡ map coinbase_of states → GiveEach profile mined states → AllGive profile (readings_behind height r heights) states
+    → height + length rest ≤ tip → AreChanges ix profile.quorums height mined before rest heights → AllStand (lists_in ix (suc height) rest) states → map (λ (h : Held). h.coinbase) rest ≡ map coinbase_of states → GiveEach profile mined states → AllGive profile (readings_behind height r heights) states
 gives_behind profile ix mined tip height before r [] [] [] list to same ordered le changes stands parts gives = tt
 gives_behind profile ix mined tip height before r [] [] (s ∷ states) list to same ordered le changes stands parts gives = absurd stands
 gives_behind profile ix mined tip height before r [] (d ∷ heights) states list to same ordered le changes stands parts gives = absurd changes
@@ -145,11 +164,11 @@ gives_behind profile ix mined tip height before r (h ∷ rest) [] states list to
 gives_behind profile ix mined tip height before r (h ∷ rest) (d ∷ heights) [] list to same ordered le changes stands parts gives = absurd stands
 gives_behind profile ix mined tip height before r (h ∷ rest) (d ∷ heights) (s ∷ states) list to same ordered le changes stands parts gives =
     let next = next_reading (suc height) r d in
-    let change : IsChange ix before h (suc height) mined d = changes.0 in
+    let change : IsChange ix profile.quorums before h (suc height) mined d = changes.0 in
     let list_next : next.list ≡ listing_in ix h.version = ap (λ (l : Listing). next_list l d) list ∙ change.list in
     let same_next : SameActive profile next.mined mined (suc height) =
-    every_both (λ (p : QuorumParams) (from : MinedFrom 0 (filter (is_of p tip) mined)) (is : active_at r.mined p height ≡ active_at mined p height).
-    subst (λ (l : List Commitment). active_at (r.mined ++ mined_at (suc height) l) p (suc height) ≡ active_at mined p (suc height)) (sym change.mined) (active_step p height tip mined r.mined (omega (arith, le)) from to is)) (types_of profile.quorums) ordered same in
+    every_both (λ (p : QuorumParams) (has : HasItsType profile.quorums p × MinedFrom 0 (filter (is_of p tip) mined)) (is : active_at r.mined p height ≡ active_at mined p height).
+    subst (λ (l : List Commitment). active_at (r.mined ++ mined_at (suc height) l) p (suc height) ≡ active_at mined p (suc height)) (sym change.mined) (active_step profile.quorums p has.0 height tip mined r.mined (omega (arith, le)) has.1 to is)) (types_of profile.quorums) ordered same in
     let to_next : MinedTo (suc height) next.mined = every_append (λ (m : MinedAt). m.height ≤ suc height) r.mined (mined_at (suc height) d.mined) (to_higher height (suc height) r.mined (omega arith) to) (mined_to (suc height) d.mined) in
     let part : h.coinbase ≡ coinbase_of s = ap (λ (l : List (Option CoinbasePart)). get_or l 0 h.coinbase) parts in
     let parts_rest : map (λ (h : Held). h.coinbase) rest ≡ map coinbase_of states = ap (drop 1) parts in (
@@ -189,25 +208,25 @@ lowest_same profile mined height picks =
 proper_one : (ix : Indexes) (height : ℕ) (h : Held) (list : Listing) → list ≡ listing_in ix h.version → IsWhole (kept_in ix height h) → IsProper height list
 proper_one ix height h list is whole = subst (IsProper height) (sym is) (record { keys = whole.keys; penalties = whole.penalties; masternodes = whole.masternodes; collaterals = whole.collaterals })
 
-proper_behind : (ix : Indexes) (mined : List MinedAt) (height : ℕ) (before : Held) (list : Listing) (rest : List Held) (heights : List HeightData) → list ≡ listing_in ix before.version → AreChanges ix height mined before rest heights → All IsWhole (lists_in ix (suc height) rest) → AreProper (suc height) (lists_behind list heights)
-proper_behind ix mined height before list [] [] is changes whole = tt
-proper_behind ix mined height before list [] (d ∷ heights) is changes whole = absurd changes
-proper_behind ix mined height before list (h ∷ rest) [] is changes whole = absurd changes
-proper_behind ix mined height before list (h ∷ rest) (d ∷ heights) is changes whole =
+proper_behind : (ix : Indexes) (quorums : List (Option QuorumParams)) (mined : List MinedAt) (height : ℕ) (before : Held) (list : Listing) (rest : List Held) (heights : List HeightData) → list ≡ listing_in ix before.version → AreChanges ix quorums height mined before rest heights → All IsWhole (lists_in ix (suc height) rest) → AreProper (suc height) (lists_behind list heights)
+proper_behind ix quorums mined height before list [] [] is changes whole = tt
+proper_behind ix quorums mined height before list [] (d ∷ heights) is changes whole = absurd changes
+proper_behind ix quorums mined height before list (h ∷ rest) [] is changes whole = absurd changes
+proper_behind ix quorums mined height before list (h ∷ rest) (d ∷ heights) is changes whole =
     let next : next_list list d ≡ listing_in ix h.version = ap (λ (l : Listing). next_list l d) is ∙ (change changes.0).list in
-    (proper_one ix (suc height) h (next_list list d) next (whole 0 (kept_in ix (suc height) h) (omega arith)), proper_behind ix mined (suc height) h (next_list list d) rest heights next changes.1 (λ k d lt. whole (suc k) d (omega (arith, lt))))
+    (proper_one ix (suc height) h (next_list list d) next (whole 0 (kept_in ix (suc height) h) (omega arith)), proper_behind ix quorums mined (suc height) h (next_list list d) rest heights next changes.1 (λ k d lt. whole (suc k) d (omega (arith, lt))))
   where
-    change : IsChange ix before h (suc height) mined d → IsChange ix before h (suc height) mined d
+    change : IsChange ix quorums before h (suc height) mined d → IsChange ix quorums before h (suc height) mined d
     change c = c
 
-hashes_behind : (ix : Indexes) (mined : List MinedAt) (height : ℕ) (before : Held) (r : Reading) (rest : List Held) (heights : List HeightData) → AreChanges ix height mined before rest heights → All IsWhole (lists_in ix (suc height) rest) → AllByRecursion (λ (r : Reading). is_zero r.hash.0 ≡ false) (readings_behind height r heights)
-hashes_behind ix mined height before r [] [] changes whole = tt
-hashes_behind ix mined height before r [] (d ∷ heights) changes whole = absurd changes
-hashes_behind ix mined height before r (h ∷ rest) [] changes whole = absurd changes
-hashes_behind ix mined height before r (h ∷ rest) (d ∷ heights) changes whole =
-    (ap (λ (x : Hash256). is_zero x.0) (hash_of changes.0) ∙ (whole 0 (kept_in ix (suc height) h) (omega arith)).hash, hashes_behind ix mined (suc height) h (next_reading (suc height) r d) rest heights changes.1 (λ k d lt. whole (suc k) d (omega (arith, lt))))
+hashes_behind : (ix : Indexes) (quorums : List (Option QuorumParams)) (mined : List MinedAt) (height : ℕ) (before : Held) (r : Reading) (rest : List Held) (heights : List HeightData) → AreChanges ix quorums height mined before rest heights → All IsWhole (lists_in ix (suc height) rest) → AllByRecursion (λ (r : Reading). is_zero r.hash.0 ≡ false) (readings_behind height r heights)
+hashes_behind ix quorums mined height before r [] [] changes whole = tt
+hashes_behind ix quorums mined height before r [] (d ∷ heights) changes whole = absurd changes
+hashes_behind ix quorums mined height before r (h ∷ rest) [] changes whole = absurd changes
+hashes_behind ix quorums mined height before r (h ∷ rest) (d ∷ heights) changes whole =
+    (ap (λ (x : Hash256). is_zero x.0) (hash_of changes.0) ∙ (whole 0 (kept_in ix (suc height) h) (omega arith)).hash, hashes_behind ix quorums mined (suc height) h (next_reading (suc height) r d) rest heights changes.1 (λ k d lt. whole (suc k) d (omega (arith, lt))))
   where
-    hash_of : IsChange ix before h (suc height) mined d → d.hash ≡ h.hash
+    hash_of : IsChange ix quorums before h (suc height) mined d → d.hash ≡ h.hash
     hash_of c = c.hash
 
 -- ---- all of it
@@ -239,7 +258,7 @@ holds_told branch m d first rest is read coinbases kept sound told form stands =
     let active : d.active ≡ all_active_at branch.mined profile.quorums low = told.active ∙ ap (λ (p : Profile). all_active_at branch.mined p.quorums low) stands.profile in
     let to : MinedTo low d.active = subst (MinedTo low) (sym active) (all_to branch.mined low profile.quorums) in
     let same : SameActive profile d.active branch.mined low = subst (λ (l : List MinedAt). SameActive profile l branch.mined low) (sym active) (lowest_same profile branch.mined low (picks_each m.start branch.mined low)) in
-    let ordered : AreOrdered profile (tip m).height branch.mined = every_then (λ (p : QuorumParams) (g : GivesActive branch.mined (tip m).height states p). g.ordered) (types_of profile.quorums) stands.quorums in
+    let ordered : AreOrdered profile (tip m).height branch.mined = every_both (λ (p : QuorumParams) (has : HasItsType profile.quorums p) (g : GivesActive branch.mined (tip m).height states p). (has, g.ordered)) (types_of profile.quorums) (have_types profile.quorums) stands.quorums in
     let gives : GiveEach profile branch.mined states = every_then (λ (p : QuorumParams) (g : GivesActive branch.mined (tip m).height states p). g.active) (types_of profile.quorums) stands.quorums in
     let low_at : d.low ≡ low = told.low_is in
     record {
@@ -248,9 +267,9 @@ holds_told branch m d first rest is read coinbases kept sound told form stands =
       low = low_at ∙ low_is branch m stands;
       states = subst (λ (n : ℕ). AllGive profile (lowest d ∷ readings_behind n (lowest d) d.heights) states) (sym low_at) (give states all parts gives to same ordered (omega (arith, at, long)));
       proper = subst (λ (n : ℕ). AreProper n (lists_of d)) (sym low_at)
-          (proper_one ix low first (lowest d).list told.list (wholes 0 (kept_in ix low first) (omega arith)), proper_behind ix branch.mined low first (lowest d).list rest d.heights told.list told.changes (λ k x lt. wholes (suc k) x (omega (arith, lt))));
+          (proper_one ix low first (lowest d).list told.list (wholes 0 (kept_in ix low first) (omega arith)), proper_behind ix branch.profile.quorums branch.mined low first (lowest d).list rest d.heights told.list told.changes (λ k x lt. wholes (suc k) x (omega (arith, lt))));
       hashes = subst (λ (n : ℕ). AllByRecursion (λ (r : Reading). is_zero r.hash.0 ≡ false) (lowest d ∷ readings_behind n (lowest d) d.heights)) (sym low_at)
-          (ap (λ (x : Hash256). is_zero x.0) told.hash ∙ (wholes 0 (kept_in ix low first) (omega arith)).hash, hashes_behind ix branch.mined low first (lowest d) rest d.heights told.changes (λ k x lt. wholes (suc k) x (omega (arith, lt))));
+          (ap (λ (x : Hash256). is_zero x.0) told.hash ∙ (wholes 0 (kept_in ix low first) (omega arith)).hash, hashes_behind ix branch.profile.quorums branch.mined low first (lowest d) rest d.heights told.changes (λ k x lt. wholes (suc k) x (omega (arith, lt))));
       active = subst (λ (n : ℕ). All (λ (q : MinedAt). q.height ≤ n) d.active) (sym low_at) (All-from_recursion (λ (q : MinedAt). q.height ≤ low) d.active to);
       below = omega (arith, at, told.top_is, kept.tip, kept.some);
       reach = omega (arith, at, told.top_is, kept.reach, kept.some, ap (λ (p : Profile). p.depth) stands.profile);
@@ -263,9 +282,51 @@ holds_told branch m d first rest is read coinbases kept sound told form stands =
         let part : first.coinbase ≡ coinbase_of s = ap (λ (l : List (Option CoinbasePart)). get_or l 0 first.coinbase) parts in
         let parts_rest : map (λ (h : Held). h.coinbase) rest ≡ map coinbase_of states = ap (drop 1) parts in (
           gives_one (machine.profile m) branch.indexes branch.mined (low_kept branch) first (lowest d) s states told.hash told.coinbase told.list same all.0 part gives,
-          gives_behind (machine.profile m) branch.indexes branch.mined (tip m).height (low_kept branch) first (lowest d) rest d.heights states told.list to same ordered le told.changes all.1 parts_rest
+          gives_behind (machine.profile m) branch.indexes branch.mined (tip m).height (low_kept branch) first (lowest d) rest d.heights states told.list to same ordered le (subst (λ (q : List (Option QuorumParams)). AreChanges branch.indexes q (low_kept branch) branch.mined first rest d.heights) (ap (λ (p : Profile). p.quorums) stands.profile) told.changes) all.1 parts_rest
               (every_then (λ (p : QuorumParams) (each : AllByRecursion (λ (s : State). active_at branch.mined p s.height ≡ active_at s.mined p s.height) (s ∷ states)). each.1) (types_of (machine.profile m).quorums) gives),
         )
+
+-- ---- it is lean
+
+types_at : (quorums : List (Option QuorumParams)) (height : ℕ) (mined : List MinedAt) → AllByRecursion (λ (c : Commitment). has_type quorums c ≡ true) (commitments_at quorums height mined)
+types_at quorums height [] = tt
+types_at quorums height (m ∷ mined) = go (m.height == height) (has_type quorums m.commitment) refl (types_at quorums height mined)
+  where
+    go : (h t : Bool) → has_type quorums m.commitment ≡ t → AllByRecursion (λ (c : Commitment). has_type quorums c ≡ true) (commitments_at quorums height mined) → AllByRecursion (λ (c : Commitment). has_type quorums c ≡ true) (map (λ (m : MinedAt). m.commitment) (cond (h && t) (m ∷ filter (is_at quorums height) mined) (filter (is_at quorums height) mined)))
+    go true true is rest = (is, rest)
+    go true false is rest = rest
+    go false t is rest = rest
+
+lean_behind : (ix : Indexes) (quorums : List (Option QuorumParams)) (mined : List MinedAt) (height : ℕ) (before : Held) (list : Listing) (rest : List Held) (heights : List HeightData) → list ≡ listing_in ix before.version → AreChanges ix quorums height mined before rest heights → AreLean quorums list heights
+lean_behind ix quorums mined height before list [] [] is changes = tt
+lean_behind ix quorums mined height before list [] (d ∷ heights) is changes = absurd changes
+lean_behind ix quorums mined height before list (h ∷ rest) [] is changes = absurd changes
+lean_behind ix quorums mined height before list (h ∷ rest) (d ∷ heights) is changes =
+    let change : IsChange ix quorums before h (suc height) mined d = changes.0 in (
+      record {
+        mined = subst (AllByRecursion (λ (c : Commitment). has_type quorums c ≡ true)) (sym change.mined) (types_at quorums (suc height) mined);
+        removed = subst (λ (l : Listing). AllByRecursion (λ (hash : Hash256). IsSome (find (has_hash hash) l.rows)) d.removed) (sym is) change.removed;
+        spent = subst (λ (l : Listing). AllByRecursion (λ (point : OutPoint). IsSome (find (has_point point) l.outputs)) d.spent) (sym is) change.spent;
+      },
+      lean_behind ix quorums mined (suc height) h (next_list list d) rest heights (ap (λ (l : Listing). next_list l d) is ∙ change.list) changes.1,
+    )
+
+flat_same : (one other : List MinedAt) (height : ℕ) (types : List QuorumParams) → AllByRecursion (λ (p : QuorumParams). active_at one p height ≡ active_at other p height) types → flat_map (λ params. active_at one params height) types ≡ flat_map (λ params. active_at other params height) types
+flat_same one other height [] all = refl
+flat_same one other height (p ∷ types) all =
+    ap (λ (l : List MinedAt). l ++ flat_map (λ params. active_at one params height) types) all.0
+    ∙ ap (λ (l : List MinedAt). active_at other p height ++ l) (flat_same one other height types all.1)
+
+pub lean_told : (branch : Keeping) (m : MachineState) (d : SnapshotData) (first : Held) (rest : List Held) → IsTold branch.indexes branch.profile.quorums branch.top (low_kept branch) branch.mined first rest d → StandsFor branch m → IsLean (machine.profile m) d
+lean_told branch m d first rest told stands =
+    let low = low_kept branch in
+    let profile = machine.profile m in
+    let active : d.active ≡ all_active_at branch.mined profile.quorums low = told.active ∙ ap (λ (p : Profile). all_active_at branch.mined p.quorums low) stands.profile in
+    let same : SameActive profile d.active branch.mined low = subst (λ (l : List MinedAt). SameActive profile l branch.mined low) (sym active) (lowest_same profile branch.mined low (picks_each m.start branch.mined low)) in
+    record {
+      active = active ∙ sym (flat_same d.active branch.mined low (types_of profile.quorums) same) ∙ ap (λ (n : ℕ). all_active_at d.active profile.quorums n) (sym told.low_is);
+      heights = subst (λ (p : Profile). AreLean p.quorums (lowest_list d) d.heights) stands.profile (lean_behind branch.indexes branch.profile.quorums branch.mined low first (lowest_list d) rest d.heights told.list told.changes);
+    }
 
 -- there is a lowest height
 pub record HasFirst (held : List Held) : Type 0 where

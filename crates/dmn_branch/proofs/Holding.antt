@@ -22,7 +22,7 @@ use Rattle.dmn_indexes.proofs.Cutting.{whole_below}
 use Rattle.dmn_branch.specs.declared.held.Held.{Held}
 use Rattle.dmn_block.specs.State.{State}
 use Rattle.dmn_branch.proofs.Replaying.{split, without_last}
-use Rattle.dmn_branch.specs.declared.coinbase.CoinbasePart.{CoinbasePart}
+use Rattle.dmn_held.specs.declared.coinbase.CoinbasePart.{CoinbasePart}
 use Rattle.dmn_branch.specs.declared.held.HeightVersion.{HeightVersion}
 use Rattle.dmn_branch.specs.Items.{held_of}
 use Rattle.dmn_branch.specs.Stands.{Kept, AllStand, AllTreesStand, AreFrom, AreSound, IsWhole, StandsAt, kept_at, kept_in, kept_of, lists_in}

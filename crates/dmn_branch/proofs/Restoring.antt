@@ -20,10 +20,10 @@ use Rattle.dmn_rows.specs.declared.profile.Profile.{Profile}
 use Rattle.dmn_rows.specs.Listing.{Listing}
 use Rattle.dmn_rows.specs.Rows.{plain_rows}
 use Rattle.dmn_sml.specs.Defs.{root_of, simple}
-use Rattle.dmn_branch.specs.declared.coinbase.CoinbasePart.{CoinbasePart}
+use Rattle.dmn_held.specs.declared.coinbase.CoinbasePart.{CoinbasePart}
 use Rattle.dmn_branch.specs.declared.held.Held.{Held}
 use Rattle.dmn_branch.specs.Coinbases.{TellsRoot, coinbase_of, root_in}
-use Rattle.dmn_branch.specs.Holds.{AllGive, Gives, Reading, lowest, next_reading, readings, readings_behind, part_if}
+use Rattle.dmn_branch.specs.Holds.{AllGive, Gives, Reading, lowest, next_reading, readings, readings_behind}
 use Rattle.dmn_branch.specs.Stands.{AllStand, AreSound, IsWhole, StandsAt, kept_in, lists_in}
 use Rattle.dmn_branch.specs.Taking.{AreMadeOf, Head, IsMadeOf, IsSoundHead, head_of, heads}
 use Rattle.dmn_branch.proofs.History.{IsAt, StatesFrom}
@@ -133,7 +133,7 @@ pub sound_heads : (profile : Profile) (read : List Reading) (states : List State
 sound_heads profile [] [] all roots hashes = tt
 sound_heads profile (r ∷ read) (s ∷ states) all roots hashes = (record { hash = hashes.0; root = subst IsSome (sym (ap root_in (gives_coinbase all.0) ∙ roots.0)) refl }, sound_heads profile read states all.1 roots.1 hashes.1)
   where
-    gives_coinbase : Gives profile r s → part_if r.coinbase ≡ coinbase_of s
+    gives_coinbase : Gives profile r s → r.coinbase ≡ coinbase_of s
     gives_coinbase g = g.coinbase
 sound_heads profile [] (s ∷ states) all roots hashes = absurd all
 sound_heads profile (r ∷ read) [] all roots hashes = absurd all

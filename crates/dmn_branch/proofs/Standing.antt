@@ -22,7 +22,7 @@ use Rattle.dmn_branch.specs.Machine.{MachineState, disconnect, history, held_sta
 use Rattle.dmn_branch.specs.Parts.{StandsIn}
 use Rattle.dmn_branch.specs.Replay.{IsLawful}
 use Rattle.dmn_branch.specs.Coinbases.{coinbase_of}
-use Rattle.dmn_branch.specs.declared.coinbase.CoinbasePart.{CoinbasePart}
+use Rattle.dmn_held.specs.declared.coinbase.CoinbasePart.{CoinbasePart}
 use Rattle.dmn_branch.specs.Stands.{Kept, Keeping, Next, StandsAt, AllStand, AreSound, StandsFor, IsNext, AreFrom, IsKept, GivesActive, IsAboveFloor, KeepsActive, lists_in, low_of, low_kept, tip_kept}
 use Rattle.dmn_branch.proofs.Active.{StatesTo, gives_less, gives_more}
 use Rattle.dmn_branch.proofs.Every.{every_at, every_both, every_then}

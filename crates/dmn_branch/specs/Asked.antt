@@ -17,7 +17,7 @@ use Rattle.dmn_standing.specs.Payment.{forecast, payee_row}
 use denote.Ref.{Bor}
 use Rattle.dmn_merkle.specs.declared.branch.Branching.{Branching}
 use Rattle.dmn_tx.specs.declared.tx.Tx.{Tx}
-use Rattle.dmn_branch.specs.declared.coinbase.CoinbasePart.{CoinbasePart}
+use Rattle.dmn_held.specs.declared.coinbase.CoinbasePart.{CoinbasePart}
 use Rattle.dmn_branch.specs.declared.tip.Tip.{Tip}
 use Rattle.dmn_branch.specs.Pins.{Pinned, page_of}
 use Rattle.dmn_branch.specs.Machine.{MachineState, profile, rows_of, state_at, tip, low, top}

@@ -12,7 +12,7 @@ use Rattle.dmn_payloads.specs.Payloads.{cb}
 use Rattle.dmn_sml.specs.Defs.{root_of, simple}
 use Rattle.dmn_tx.specs.declared.tx.Tx.{Tx}
 use Rattle.dmn_tx.specs.Defs.{id_of}
-use Rattle.dmn_branch.specs.declared.coinbase.CoinbasePart.{CoinbasePart}
+pub use Rattle.dmn_held.specs.declared.coinbase.CoinbasePart.{CoinbasePart}
 
 -- the first of these transactions, and its branch
 abbrev pub part_of : List Tx → Option CoinbasePart

@@ -1,10 +1,10 @@
 -- When what a snapshot holds is a machine: it is read row by row, and folded height by height.
-use Rattle.std.specs.Prelude.{◌≡◌, ℕ, suc, ◌+◌, ◌≤◌, false, List, [], ◌∷◌, ◌++◌, Option, None, Some}
+use Rattle.std.specs.Prelude.{◌≡◌, ℕ, suc, ◌+◌, ◌≤◌, false, List, [], ◌∷◌, ◌++◌, Option, Some}
 use Rattle.std.specs.List.{All, AllByRecursion}
 use Rattle.dmn_block.specs.State.{State}
 use Rattle.dmn_bytes.specs.declared.hash.Hash256.{Hash256}
 use Rattle.dmn_bytes.specs.Points.{is_zero}
-use Rattle.dmn_held.specs.declared.coinbase.CoinbasePart.{CoinbasePart as HeldPart}
+use Rattle.dmn_held.specs.declared.coinbase.CoinbasePart.{CoinbasePart}
 use Rattle.dmn_held.specs.declared.data.HeightData.{HeightData}
 use Rattle.dmn_held.specs.declared.data.SnapshotData.{SnapshotData}
 use Rattle.dmn_held.specs.Defs.{IsHeld}
@@ -15,7 +15,6 @@ use Rattle.dmn_restore.specs.Proper.{AreProper}
 use Rattle.dmn_rows.specs.declared.profile.Profile.{Profile}
 use Rattle.dmn_rows.specs.Listing.{Listing}
 use Rattle.dmn_rows.specs.Rows.{plain_rows}
-use Rattle.dmn_branch.specs.declared.coinbase.CoinbasePart.{CoinbasePart}
 use Rattle.dmn_branch.specs.Coinbases.{coinbase_of}
 use Rattle.dmn_branch.specs.Machine.{MachineState, held_states, low, profile, tip, top}
 
@@ -23,7 +22,7 @@ use Rattle.dmn_branch.specs.Machine.{MachineState, held_states, low, profile, ti
 -- lowest height with the commitments that were mined since
 pub record Reading : Type 0 where
   pub hash : Hash256
-  pub coinbase : Option HeldPart
+  pub coinbase : Option CoinbasePart
   pub list : Listing
   pub mined : List MinedAt
 
@@ -43,19 +42,11 @@ readings_behind height before (d ∷ heights) = next_reading (suc height) before
 abbrev pub readings : SnapshotData → List Reading
 readings held = lowest held ∷ readings_behind held.low (lowest held) held.heights
 
--- what proves a coinbase, as a branch has it
-abbrev pub part_of : HeldPart → CoinbasePart
-part_of part = record { tx = part.tx; branch = part.branch }
-
-abbrev pub part_if : Option HeldPart → Option CoinbasePart
-part_if None = None
-part_if (Some part) = Some (part_of part)
-
 -- What is read gives a state: its hash and coinbase, its rows as they are seen at its height, its outputs, and for each type
 -- its active quorums.
 pub record Gives (profile : Profile) (reading : Reading) (state : State) : Type 0 where
   pub hash : reading.hash ≡ state.hash
-  pub coinbase : part_if reading.coinbase ≡ coinbase_of state
+  pub coinbase : reading.coinbase ≡ coinbase_of state
   pub rows : plain_rows state.height reading.list.rows ≡ state.rows
   pub outputs : reading.list.outputs ≡ state.outputs
   pub quorums : AllByRecursion (λ params. active_at reading.mined params state.height ≡ active_at state.mined params state.height) (types_of profile.quorums)

@@ -1,6 +1,6 @@
 -- What is held of each height, as a list that has room.
 use Rattle.std.specs.Prelude.{ℕ, List, Option}
-use Rattle.dmn_branch.specs.declared.coinbase.CoinbasePart.{CoinbasePart}
+use Rattle.dmn_held.specs.declared.coinbase.CoinbasePart.{CoinbasePart}
 use Rattle.dmn_branch.specs.declared.held.Held.{Held}
 use Rattle.dmn_branch.specs.declared.held.HeightVersion.{HeightVersion}
 

@@ -11,6 +11,7 @@ pub mod Stands
 pub mod Compact
 pub mod Asked
 pub mod Holds
+pub mod Lean
 pub mod Taking
 pub mod Telling
 pub mod Fault

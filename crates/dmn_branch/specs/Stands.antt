@@ -11,7 +11,7 @@ use Rattle.dmn_indexes.specs.Version.{by_hash, outputs_in, rows_in, values}
 use Rattle.dmn_indexes.specs.Version as versions
 use Rattle.dmn_indexes.specs.Stands as trees
 use Rattle.dmn_branch.specs.Coinbases.{coinbase_of}
-use Rattle.dmn_branch.specs.declared.coinbase.CoinbasePart.{CoinbasePart}
+use Rattle.dmn_held.specs.declared.coinbase.CoinbasePart.{CoinbasePart}
 use Rattle.dmn_branch.specs.declared.held.Held.{Held}
 use Rattle.dmn_branch.specs.declared.held.HeightVersion.{HeightVersion}
 use Rattle.dmn_branch.specs.declared.held.Prepared.{Prepared}

@@ -2,7 +2,7 @@
 use Rattle.std.specs.Prelude.{◌≡◌, ℕ, suc, ◌+◌, ◌≤◌, false, List, [], ◌∷◌, ◌++◌, length, map, Option, Some, IsSome}
 use Rattle.dmn_bytes.specs.declared.hash.Hash256.{Hash256}
 use Rattle.dmn_bytes.specs.Points.{is_zero}
-use Rattle.dmn_held.specs.declared.coinbase.CoinbasePart.{CoinbasePart as HeldPart}
+use Rattle.dmn_held.specs.declared.coinbase.CoinbasePart.{CoinbasePart}
 use Rattle.dmn_held.specs.declared.data.HeightData.{HeightData}
 use Rattle.dmn_held.specs.declared.data.SnapshotData.{SnapshotData}
 use Rattle.dmn_payloads.specs.declared.mined.MinedAt.{MinedAt}
@@ -11,7 +11,6 @@ use Rattle.dmn_restore.specs.declared.making.Marked.{Marked}
 use Rattle.dmn_rows.specs.declared.profile.Profile.{Profile}
 use Rattle.dmn_branch.specs.declared.held.Held.{Held}
 use Rattle.dmn_branch.specs.Coinbases.{root_in}
-use Rattle.dmn_branch.specs.Holds.{part_if}
 
 -- The lowest height is this, and the heights that are held reach up to the top, or so near that the tip may have been there.
 pub record FitsHeights (profile : Profile) (low : ℕ) (held : SnapshotData) : Type 0 where
@@ -22,7 +21,7 @@ pub record FitsHeights (profile : Profile) (low : ℕ) (held : SnapshotData) : T
 -- the hash of a height's block, and what proves its coinbase
 pub record Head : Type 0 where
   pub hash : Hash256
-  pub coinbase : Option HeldPart
+  pub coinbase : Option CoinbasePart
 
 abbrev pub head_of : HeightData → Head
 head_of d = record { hash = d.hash; coinbase = Some d.coinbase }
@@ -33,7 +32,7 @@ heads held = record { hash = held.low_hash; coinbase = held.coinbase } ∷ map h
 -- a hash that isn't zero, and a coinbase that tells a root
 pub record IsSoundHead (head : Head) : Type 0 where
   pub hash : is_zero head.hash.0 ≡ false
-  pub root : IsSome (root_in (part_if head.coinbase))
+  pub root : IsSome (root_in head.coinbase)
 
 -- what is to be held of a height
 pub record IsMadeOf (head : Head) (made : Marked) (held : Held) : Type 0 where
@@ -41,7 +40,7 @@ pub record IsMadeOf (head : Head) (made : Marked) (held : Held) : Type 0 where
   pub hash : held.hash ≡ head.hash
   pub root : root_in held.coinbase ≡ Some held.root
   pub version : held.version ≡ made.version
-  pub coinbase : held.coinbase ≡ part_if head.coinbase
+  pub coinbase : held.coinbase ≡ head.coinbase
   pub marks : held.marks ≡ made.marks
 
 -- height by height

@@ -24,6 +24,7 @@ ghost use Rattle.dmn_branch.specs.Compact.{MoreByAtMost};
 ghost use Rattle.dmn_branch.specs.declared.held.Held.{Held};
 ghost use Rattle.dmn_branch.specs.Fault.{Tells, TellsFull, TellsRule};
 ghost use Rattle.dmn_branch.specs.Holds.{Holds};
+ghost use Rattle.dmn_branch.specs.Lean.{IsLean};
 ghost use Rattle.dmn_branch.specs.Machine as machine;
 ghost use Rattle.dmn_branch.specs.Machine.{MachineState};
 ghost use Rattle.dmn_branch.specs.Parts.{StandsIn, IsSettled, IsTreeOf, all_formed_in, formed_in};
@@ -172,6 +173,8 @@ impl Branch {
     /// it, told by the trees.
     pub fn to_data(&self, alloc: Global) -> Result<SnapshotData, Memory>
         ensures holds { (m : MachineState) → StandsFor self.now m → IfOk result (λ held. Holds held m) }
+        // Its commitments count, and what is taken away was there.
+        ensures lean { (m : MachineState) → StandsFor self.now m → IfOk result (IsLean (machine.profile m)) }
         ensures form { IfOk result HasForm }
     {
         data_of(
@@ -730,63 +733,48 @@ impl Branch {
     }
 }
 
-#[cfg(test)]
-mod tests {
-    use super::*;
-    use dmn_rows::read_start;
-    use std::process::Abort;
-    use std::test::Fail;
+// With a further field this does not compile.
+fn names_height(height: &Held) {
+    let Held {
+        hash: _,
+        root: _,
+        version: _,
+        coinbase: _,
+        marks: _,
+    } = height;
+}
 
-    // Profile 1, first height 2, a hash of ones, no outputs.
-    const START: [u8; 43] = [
-        1, 0, 1, 2, 0, 0, 0, 1, 1, 1, 1, 1, 1, 1, 1, 1, 1, 1, 1, 1, 1, 1, 1, 1, 1, 1, 1, 1, 1, 1,
-        1, 1, 1, 1, 1, 1, 1, 1, 1, 0, 0, 0, 0,
-    ];
+// With a further field this does not compile.
+fn names_pin(pin: &Pin) {
+    let Pin {
+        number: _,
+        height: _,
+        root: _,
+        mark: _,
+    } = pin;
+}
 
-    // With a further field this does not compile: a branch keeps no list of rows beside its arenas.
-    #[test]
-    fn these_fields_and_no_more(rt: HostRuntime) -> Result<(), Fail> {
-        let alloc = rt.alloc();
-        let start = read_start(alloc, &START)?;
-        let mut branch = Branch::start(alloc, &start)?;
-        let tip = branch.tip();
-        assert_eq!(rt; branch.pin(tip.height).ok(), Some(1));
-        let Branch {
-            profile: _,
-            first,
-            top,
-            indexes: _,
-            after,
-            held: HeldList { items: mut held },
-            mined: Mined { items: mined },
-            pins: PinList { items: mut pins },
-            next_pin,
-        } = branch;
-        assert_eq!(rt; (first, top, next_pin), (2, 1, Some(2)));
-        assert_eq!(rt; (after, mined.len()), ([0; 8], 0));
-        assert!(rt;
-            matches!(
-                held.pop(),
-                Some(Held {
-                    hash: _,
-                    root: _,
-                    version: _,
-                    coinbase: None,
-                    marks: _
-                })
-            )
-        );
-        assert!(rt;
-            matches!(
-                pins.pop(),
-                Some(Pin {
-                    number: 1,
-                    height: 1,
-                    root: _,
-                    mark: 0
-                })
-            )
-        );
-        Ok(())
+/// Names each field of a branch, and does nothing. With a further field this does not compile: a branch keeps no list of rows
+/// beside its arenas.
+pub fn names_each_field(branch: &Branch) {
+    let Branch {
+        profile: _,
+        first: _,
+        top: _,
+        indexes: _,
+        after: _,
+        held,
+        mined,
+        pins,
+        next_pin: _,
+    } = branch;
+    let HeldList { items: held } = held;
+    let Mined { items: _ } = mined;
+    let PinList { items: pins } = pins;
+    if let Some(height) = held.first() {
+        names_height(height);
+    }
+    if let Some(pin) = pins.first() {
+        names_pin(pin);
     }
 }

@@ -6,16 +6,9 @@ ghost use Rattle.dmn_branch.specs.Coinbases.{part_of};
 
 use dmn_block::BlockFrame;
 use dmn_bytes::Memory;
-use dmn_merkle::{Branching, coinbase_branch};
-use dmn_tx::Tx;
+use dmn_held::CoinbasePart;
+use dmn_merkle::coinbase_branch;
 use std::alloc::Global;
-
-/// The first transaction of a block, and the branch that proves it under the block's Merkle root.
-#[derive(Debug, Drop)]
-pub struct CoinbasePart {
-    pub tx: Tx,
-    pub branch: Branching,
-}
 
 /// That of a block's first transaction, where the block has one.
 pub fn coinbase_part(alloc: Global, block: &BlockFrame) -> Result<Option<CoinbasePart>, Memory>
@@ -30,4 +23,13 @@ pub fn coinbase_part(alloc: Global, block: &BlockFrame) -> Result<Option<Coinbas
             Ok(Some(CoinbasePart { tx, branch }))
         }
     }
+}
+
+/// The same in memory of its own.
+pub fn copy_part(alloc: Global, part: &CoinbasePart) -> Result<CoinbasePart, Memory>
+    ensures { IfOk result (λ copy. copy ≡ part.now) }
+{
+    let tx = part.tx.copy(alloc)?;
+    let branch = part.branch.copy(alloc)?;
+    Ok(CoinbasePart { tx, branch })
 }

@@ -8,13 +8,12 @@ ghost use Rattle.dmn_bytes.specs.Format.{whole};
 ghost use Rattle.dmn_payloads.specs.Payloads.{cb};
 ghost use Rattle.dmn_quorums.specs.Duty.{mined_at};
 ghost use Rattle.dmn_branch.specs.Coinbases.{root_in};
-ghost use Rattle.dmn_branch.specs.Holds.{part_if, part_of};
 ghost use Rattle.dmn_branch.specs.Taking.{AreMadeOf, FitsHeights, Head, IsMadeOf, IsSoundHead, heads, mined_in};
 
-use crate::coinbase::CoinbasePart;
+use crate::coinbase::copy_part;
 use crate::held::{Held, HeldList};
 use dmn_bytes::{Hash256, Memory, is_zero};
-use dmn_held::{CoinbasePart as HeldPart, HeightData, SnapshotData};
+use dmn_held::{CoinbasePart, HeightData, SnapshotData};
 use dmn_payloads::{Commitment, MinedAt, PayloadFault, read_cb};
 use dmn_quorums::{Mined, all_active_among};
 use dmn_restore::{DataFault, Marked};
@@ -54,16 +53,8 @@ fn told_root(alloc: Global, coinbase: &Option<CoinbasePart>) -> Result<Option<Ha
     }
 }
 
-fn copy_part(alloc: Global, part: &HeldPart) -> Result<CoinbasePart, Memory>
-    ensures { IfOk result (λ copy. copy ≡ part_of part.now) }
-{
-    let tx = part.tx.copy(alloc)?;
-    let branch = part.branch.copy(alloc)?;
-    Ok(CoinbasePart { tx, branch })
-}
-
-fn copy_part_if(alloc: Global, part: &Option<HeldPart>) -> Result<Option<CoinbasePart>, Memory>
-    ensures { IfOk result (λ copy. copy ≡ part_if part.now) }
+fn copy_part_if(alloc: Global, part: &Option<CoinbasePart>) -> Result<Option<CoinbasePart>, Memory>
+    ensures { IfOk result (λ copy. copy ≡ part.now) }
 {
     match part {
         None => Ok(None),
@@ -78,8 +69,8 @@ fn held_from(
     coinbase: Option<CoinbasePart>,
     made: &Marked,
 ) -> Result<Held, DataFault>
-    ensures made { (head : Head) → hash.now ≡ head.hash → coinbase ≡ part_if head.coinbase → IfOk result (IsMadeOf head made.now) }
-    ensures misfit { (head : Head) → hash.now ≡ head.hash → coinbase ≡ part_if head.coinbase → IsSoundHead head → IfErr result (λ fault. fault ≡ DataFault.Memory) }
+    ensures made { (head : Head) → hash.now ≡ head.hash → coinbase ≡ head.coinbase → IfOk result (IsMadeOf head made.now) }
+    ensures misfit { (head : Head) → hash.now ≡ head.hash → coinbase ≡ head.coinbase → IsSoundHead head → IfErr result (λ fault. fault ≡ DataFault.Memory) }
 {
     if is_zero(&hash.0) {
         return Err(DataFault::Misfit);

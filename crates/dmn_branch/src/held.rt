@@ -6,9 +6,9 @@ ghost use Rattle.std.specs.Str.{bytes_eq};
 ghost use Rattle.dmn_branch.specs.Compact.{height_after, AreMade, HasVersion};
 ghost use Rattle.dmn_branch.specs.Items.{held_of, version_at};
 
-use crate::coinbase::CoinbasePart;
 use crate::compaction::Compaction;
 use dmn_bytes::{Hash256, Memory};
+use dmn_held::CoinbasePart;
 use dmn_indexes::Version;
 use std::alloc::Global;
 use std::marker::Model;

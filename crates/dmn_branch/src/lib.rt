@@ -25,7 +25,7 @@ mod tip;
 mod to_data;
 mod transactions;
 
-pub use branch::Branch;
+pub use branch::{Branch, names_each_field};
 pub use change::RowChange;
 pub use dmn_restore::DataFault;
 pub use fault::{DisconnectRefusal, PinFault, PrepareFault};

@@ -1,4 +1,4 @@
-mod Lengths
+pub mod Lengths
 pub mod Blocks
 pub mod Verdicts
 pub mod Apart

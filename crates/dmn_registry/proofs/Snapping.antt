@@ -125,7 +125,7 @@ module _ (r : Registry) (m : Machine) (held : SnapshotData) (n : Mark) (stands :
   is_behind = record { sequence = sequence_is ∙ sequence_next r.newest within more; records = omega (arith, more, records_is) }
 
   pub next_within : KeepsBounds n.sequence n.position n.records
-  next_within = next_bounds r.newest Next within is_behind (omega (arith, records_is, position_is, stands.records, stands.end, commands_long m))
+  next_within = next_bounds r.newest Next within is_behind (omega (arith, records_is, position_is, stands.records, stands.end, commands_long m)) (omega (arith, position_is, stands.end, replayed_fits m stands.start stands.replayed))
 
   faithful : IsFaithful m Next
   faithful = record {

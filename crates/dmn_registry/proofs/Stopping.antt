@@ -1,6 +1,6 @@
 -- Where a replay stops, whatever the slots hold.
 use Rattle.std.proofs.Common.{◌≡◌, inl, inr, ℕ, ◌+◌, ◌<◌, List, [], ◌∷◌, ◌++◌, length, drop, refl, sym, ap, subst, ◌∙◌, arith, append_assoc, length-append}
-use Rattle.std.specs.Prelude.{IfSome, IsErrOf, Ok, Err, Option, Result}
+use Rattle.std.specs.Prelude.{IfSome, Ok, Err, Option, Result}
 use Rattle.std.specs.Int.{w32, to_le_bytes}
 use Rattle.dmn_branch.specs.Machine as blocks
 use Rattle.dmn_branch.specs.Machine.{Command, MachineState}
@@ -132,11 +132,6 @@ pub heads_stop : (fault : JournalFault) (old one : Told) → reads_of one ≡ re
 heads_stop (NotJournal place) old one same heads = reads_same old one (λ all. OpeningStops all place) same (reads_map one _ _ heads (λ all departs. header departs))
 heads_stop DiskFault old one same heads = tt
 heads_stop Memory old one same heads = tt
-
-pub lacks_stop : (fault : JournalFault) (old : Told) → ((place : ℕ) → ¬ IsErrOf {T = Option Slot} (Err fault) (NotJournal place)) → HasCauseIn (Err fault) old
-lacks_stop (NotJournal place) old never = absurd (never place refl)
-lacks_stop DiskFault old never = tt
-lacks_stop Memory old never = tt
 
 module _ (start : StartRecord) (first limit : ℕ) (slot : Option Slot) (begun : Registry) (old three : Told) (same : reads_of three ≡ reads_of old) (is_header : IsHeader three start first) (newest : IfReads three (λ all. slot ≡ newest_in all)) (b : Begins start first slot begun) (max : limit ≡ journal_max start) where
   from_the_header : FromHeader start first slot begun → (r : Result Registry JournalFault) → ((k : Machine) → limit ≡ journal_max k.start → Replayed begun k three → Replays r three) → HasCauseIn r old

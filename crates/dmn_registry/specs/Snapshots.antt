@@ -1,7 +1,7 @@
 -- When a snapshot is written, and how much room it takes.
 use Rattle.std.specs.Prelude.{◌≡◌, ℕ, ◌+◌, ◌-◌, ◌<◌, ◌≤◌, if◌then◌else◌, length, nat_le, None}
 use Rattle.dmn_block.specs.declared.frame.BlockFrame.{BlockFrame}
-use Rattle.dmn_branch.specs.Machine.{Connect}
+use Rattle.dmn_branch.specs.Machine.{Connect, profile}
 use Rattle.dmn_journal.specs.Journal.{Entry, IsShort}
 use Rattle.dmn_journal.specs.Reading.{entry_departs}
 use Rattle.dmn_registry.specs.Faithful.{every}
@@ -12,6 +12,7 @@ use Rattle.dmn_slots.specs.Slots.{records_of}
 use Rattle.dmn_snapshot.specs.Slot.{slot_text}
 use Rattle.dmn_snapshot.specs.declared.slot.Stored.{Stored}
 use Rattle.dmn_branch.specs.Holds.{Holds}
+use Rattle.dmn_branch.specs.Lean.{IsLean}
 use Rattle.std.specs.Prelude.{Ok}
 
 -- fewer records stand behind the newest slot than a snapshot is due at
@@ -23,9 +24,9 @@ HasRoom m registry = registry.journal.records < records_of registry.newest + eve
 abbrev pub moved : Machine → Registry → ℕ
 moved m registry = if nat_le (every m.start) (registry.journal.records - records_of registry.newest) then registry.journal.records else records_of registry.newest
 
--- each slot that holds the machine may be written
+-- each slot that holds the machine and is lean may be written
 abbrev pub SnapshotsFit : Machine → ℕ → Type 0
-SnapshotsFit m room = (stored : Stored) → Holds stored.held (state_of m) → 1 + length (slot_text stored) ≤ room
+SnapshotsFit m room = (stored : Stored) → Holds stored.held (state_of m) → IsLean (profile (state_of m)) stored.held → 1 + length (slot_text stored) ≤ room
 
 -- the registry stands for a machine of which a snapshot may be written
 abbrev pub HasRoomForSnapshot : Registry → ℕ → Type 0

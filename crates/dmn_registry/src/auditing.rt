@@ -45,15 +45,14 @@ fn next_row<'a>(rows: &mut Listing<'a>) -> Option<&'a MnRow>
     rows.next()
 }
 
-// How many rows of a list are banned.
+// How many rows of a list are banned. No list has more rows than a list may have.
 fn banned_in(mut rows: Listing<'_>) -> u32
-    requires { length rows.rows ≤ most_rows }
-    ensures { result ≡ length (filter is_banned rows.entry.rows) }
+    ensures { length rows.entry.rows ≤ most_rows → result ≡ length (filter is_banned rows.entry.rows) }
 {
-    let mut banned = 0;
+    let mut banned = 0u32;
     'rows: while let Some(row) = next_row(&mut rows) {
         if row.banned != 0 {
-            banned += 1;
+            banned = banned.saturating_add(1);
         }
     }
     banned
@@ -62,7 +61,6 @@ fn banned_in(mut rows: Listing<'_>) -> u32
 impl Registry {
     /// What the registry's commands lead to, as an audit tells it.
     pub fn summary(&self) -> Audit
-        requires { (m : Machine) × StandsFor self.now m }
         ensures { (m : Machine) → StandsFor self.now m → result ≡ audit_of m }
     {
         let height = self.branch.tip().height;

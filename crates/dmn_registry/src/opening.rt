@@ -1,11 +1,11 @@
 //! Opening a registry: what is pending is synced, and of the journal what stands behind the newest snapshot is replayed. Nothing
 //! is written.
 
-ghost use Rattle.std.specs.Prelude.{◌≡◌, ◌↔◌, ◌+◌, ◌<◌, ◌≤◌, ◌^◌, ℕ, false, true, length, IfOk, OnOk, IsErrOf, IsTrue};
-ghost use Rattle.dmn_outside.specs.Changes.{OnlyReads, bytes_read};
+ghost use Rattle.std.specs.Prelude.{◌≡◌, ◌+◌, ◌<◌, ◌≤◌, ◌^◌, false, true, length, IfOk, IfSome, OnOk, IsErrOf};
+ghost use Rattle.dmn_outside.specs.Changes.{bytes_read};
 ghost use Rattle.dmn_outside.specs.Counts.{HasCause, Rose};
 ghost use Rattle.dmn_outside.specs.Crashes.{IsKnown, LeavesOnly};
-ghost use Rattle.dmn_outside.specs.Disk.{IfReads, MayLeave};
+ghost use Rattle.dmn_outside.specs.Disk.{MayLeave};
 ghost use Rattle.dmn_outside.specs.Failing.{DoesSurely};
 ghost use Rattle.dmn_journal.specs.Journal.{header_text};
 ghost use Rattle.dmn_journal.specs.Sure.{NeverFails};
@@ -14,8 +14,7 @@ ghost use Rattle.dmn_registry.specs.Opening.{Begins, HasTrueSlot, IsQuiet, Opens
 ghost use Rattle.dmn_registry.specs.Own.{IsOwn};
 ghost use Rattle.dmn_registry.specs.Untrue.{HasCauseIn};
 ghost use Rattle.dmn_rows.specs.Defs.{IsStart};
-ghost use Rattle.dmn_slots.specs.Slots.{IsWithin};
-ghost use Rattle.dmn_snapshot.specs.Slot.{newest_in};
+ghost use Rattle.dmn_snapshot.specs.Slot.{IsBounded};
 
 use crate::registry::{OpenFault, Registry};
 use crate::replaying::{at_header, limit_of, replay_records};
@@ -45,16 +44,6 @@ fn sync_all<D: Disk>(disk: &mut D) -> Result<(), Failed>
     disk.sync(2)
 }
 
-// Whether its numbers keep their bounds, and records may stand up to its place.
-fn is_within(mark: &Mark) -> bool
-    ensures { IsTrue result ↔ (IsWithin mark.now × (mark.now.position < 2 ^ 62)) }
-{
-    1 <= mark.sequence
-        && mark.sequence - 1 <= mark.records
-        && mark.records <= mark.position
-        && mark.position < 1 << 62
-}
-
 // Where replay begins: at the newest slot's place; behind the header where there is none, or where it holds no machine.
 fn begin(
     alloc: Global,
@@ -64,6 +53,7 @@ fn begin(
 ) -> Result<Registry, Memory>
     requires start { IsStart start.now }
     requires first { first < 2 ^ 62 }
+    requires bounds { IfSome slot (λ slot. IsBounded slot.stored) }
     ensures begins { IfOk result (λ r. Begins start.now first slot r) }
     ensures place { IfOk result (λ r. r.journal.end < 2 ^ 62) }
 {
@@ -71,9 +61,6 @@ fn begin(
         return at_header(alloc, start, first, None);
     };
     let mark = Mark::of(&slot);
-    if !is_within(&mark) {
-        return Err(Memory);
-    }
     match Branch::from_data(alloc, start, &slot.stored.held) {
         Ok(branch) => Ok(Registry {
             branch,
@@ -86,26 +73,6 @@ fn begin(
         }),
         Err(DataFault::Misfit) => at_header(alloc, start, first, Some(mark)),
         Err(DataFault::Memory) => Err(Memory),
-    }
-}
-
-// The newest slot.
-fn find_newest<D: Disk>(alloc: Global, disk: &mut D) -> Result<Option<Slot>, JournalFault>
-    ensures newest { IfOk result (λ slot. IfReads (D.disk disk.old).told (λ all. slot ≡ newest_in all)) }
-    ensures form { (at : ℕ) → ¬ IsErrOf result (JournalFault.NotJournal at) }
-    ensures disk { OnlyReads (D.disk disk.old) (D.disk disk.new) }
-    ensures read { bytes_read 0 (D.disk disk.new).told ≡ bytes_read 0 (D.disk disk.old).told }
-    ensures line { D.line disk.new ≡ D.line disk.old }
-    ensures room { D.room disk.new ≡ D.room disk.old }
-    ensures time { D.time disk.old ≤ D.time disk.new }
-    ensures later { (D.disk disk.old).faults ≤ (D.disk disk.new).faults }
-    ensures fault { IsErrOf result JournalFault.DiskFault → Rose (D.disk disk.old).faults (D.disk disk.new).faults }
-    ensures sure { D.tells_room ≡ true → NeverFails result JournalFault.DiskFault (D.disk disk.old) (D.disk disk.new) }
-{
-    match newest(alloc, disk) {
-        Ok(slot) => Ok(slot),
-        Err(SnapFault::DiskFault) => Err(JournalFault::DiskFault),
-        Err(SnapFault::Memory) => Err(JournalFault::Memory),
     }
 }
 
@@ -129,9 +96,10 @@ fn open_any<D: Disk>(alloc: Global, disk: &mut D) -> Result<Registry, OpenFault>
         Ok(found) => found,
         Err(fault) => return Err(fault),
     };
-    let slot = match find_newest(alloc, disk) {
+    let slot = match newest(alloc, disk) {
         Ok(slot) => slot,
-        Err(fault) => return Err(fault),
+        Err(SnapFault::DiskFault) => return Err(JournalFault::DiskFault),
+        Err(SnapFault::Memory) => return Err(JournalFault::Memory),
     };
     let Ok(begun) = begin(alloc, &start, first, slot) else {
         return Err(JournalFault::Memory);

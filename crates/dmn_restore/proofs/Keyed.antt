@@ -1,6 +1,6 @@
 -- Lists that ascend by a key: such a list is known by what is found in it; what is found behind drops and puts.
 use Rattle.std.proofs.Common.{◌≡◌, Bool, true, false, not, ◌&&◌, ◌||◌, cond, List, [], ◌∷◌, length, map, find, filter, Option, Some, None, refl, sym, ap, ◌∙◌, inl, inr, subst, arith, ◌≤◌}
-use Rattle.std.specs.Prelude.{is_some}
+use Rattle.std.specs.Prelude.{IsSome, is_some}
 use Rattle.std.specs.List.{All, AllByRecursion, list_any}
 use Rattle.std.specs.Option.{option_map_or, option_or}
 use Rattle.std.specs.Ordering.{is_eq, ordering_reverse}
@@ -378,6 +378,27 @@ module _ {K V : Type 0} (cmp : K → K → Ordering) (key : V → K) (has : K �
   fresh_ascends same old new up = Ascends-filter cmp key has is (λ v. not (is_kept same old v)) new up
 
   -- ---- how many are told
+
+  found_more : (k : K) (w : V) (vs : List V) → IsSome (find (has k) vs) → IsSome (find (has k) (w ∷ vs))
+  found_more k w vs there = elim (has k w) as (λ (b : Bool). IsSome (cond b (Some w) (find (has k) vs))) [ true ↦ refl | false ↦ there ]
+
+  all_found : (vs : List V) → AllByRecursion (λ (v : V). IsSome (find (has (key v)) vs)) vs
+  all_found [] = tt
+  all_found (v ∷ vs) = (subst (λ (b : Bool). IsSome (cond b (Some v) (find (has (key v)) vs))) (sym (itself v)) refl, more vs (all_found vs))
+    where
+      more : (ws : List V) → AllByRecursion (λ (w : V). IsSome (find (has (key w)) vs)) ws → AllByRecursion (λ (w : V). IsSome (find (has (key w)) (v ∷ vs))) ws
+      more [] all = tt
+      more (w ∷ ws) all = (found_more (key w) v vs all.0, more ws all.1)
+
+  keys_found : (test : V → Bool) (list vs : List V) → AllByRecursion (λ (v : V). IsSome (find (has (key v)) list)) vs → AllByRecursion (λ (k : K). IsSome (find (has k) list)) (map key (filter test vs))
+  keys_found test list [] all = tt
+  keys_found test list (v ∷ vs) all =
+      let rest = keys_found test list vs all.1 in
+      elim (test v) as (λ (b : Bool). AllByRecursion (λ (k : K). IsSome (find (has k) list)) (map key (cond b (v ∷ filter test vs) (filter test vs)))) [ true ↦ (all.0, rest) | false ↦ rest ]
+
+  -- each key that is gone was there
+  pub gone_found : (old new : List V) → AllByRecursion (λ (k : K). IsSome (find (has k) old)) (gone old new)
+  gone_found old new = keys_found (λ v. not (is_some (find (has (key v)) new))) old old (all_found old)
 
   pub gone_few : (old new : List V) → length (gone old new) ≤ length old
   gone_few old new =

@@ -1,6 +1,7 @@
 -- What the walks over two versions' trees give leads from the one list to the other, and has its form.
-use Rattle.std.proofs.Common.{◌≡◌, ◌==◌, ◌&&◌, ℕ, Bool, true, false, not, cond, List, [], ◌∷◌, map, filter, find, Option, None, Some, refl, sym, ap, ◌∙◌}
-use Rattle.std.specs.Prelude.{is_some}
+use Rattle.std.proofs.Common.{◌≡◌, ◌==◌, ◌&&◌, ℕ, Bool, true, false, not, cond, List, [], ◌∷◌, map, filter, find, Option, None, Some, refl, sym, ap, ◌∙◌, subst}
+use Rattle.std.specs.Prelude.{IsSome, is_some}
+use Rattle.std.specs.List.{AllByRecursion}
 use Rattle.std.specs.Option.{option_map, option_map_or}
 use Rattle.std.specs.Str.{bytes_eq}
 use Rattle.std.specs.declared.cmp.Ordering.{Ordering}
@@ -275,6 +276,17 @@ module _ (ix : Indexes) (old new : Version) (before : IsWhole ix old) (after : I
       ap (λ (l : List OutPoint). next_outputs l added (outputs_in ix old)) (gone ∙ spent_is)
       ∙ ap (λ (l : Outputs). next_outputs (points_gone (outputs_in ix old) (outputs_in ix new)) l (outputs_in ix old)) (fresh ∙ added_is)
       ∙ keyed.leads point_cmp point_of has_point output_key (alike point_cmp point_of has_point output_key (λ (o : StartOutput). o.pay) (pays.ghosts).eq) output_exact (outputs_in ix old) (outputs_in ix new) (version_outputs ix old before) (version_outputs ix new after)
+
+  -- what is gone was there
+  pub removed_found : (removed : List Hash256) → removed ≡ gone_of hash_cmp (reads ix.rows old.rows) (reads ix.rows new.rows) → AllByRecursion (λ (hash : Hash256). IsSome (find (has_hash hash) (rows_in ix old))) removed
+  removed_found removed gone =
+      subst (AllByRecursion (λ (hash : Hash256). IsSome (find (has_hash hash) (rows_in ix old)))) (sym (gone ∙ removed_is))
+      (keyed.gone_found hash_cmp hash_of has_hash row_key (rows_in ix old) (rows_in ix new))
+
+  pub spent_found : (spent : List OutPoint) → spent ≡ gone_of point_cmp (reads ix.outputs old.outputs) (reads ix.outputs new.outputs) → AllByRecursion (λ (point : OutPoint). IsSome (find (has_point point) (outputs_in ix old))) spent
+  spent_found spent gone =
+      subst (AllByRecursion (λ (point : OutPoint). IsSome (find (has_point point) (outputs_in ix old)))) (sym (gone ∙ spent_is))
+      (keyed.gone_found point_cmp point_of has_point output_key (outputs_in ix old) (outputs_in ix new))
 
 -- ---- a whole version, as what differs from none
 

@@ -1,13 +1,14 @@
 //! What changes from one height to the next, told by their trees.
 
-ghost use Rattle.std.specs.Prelude.{◌≡◌, ◌∷◌, ◌++◌, [], IfOk, OnOk, map};
-ghost use Rattle.std.specs.List.{All};
+ghost use Rattle.std.specs.Prelude.{◌≡◌, ◌∷◌, ◌++◌, [], IfOk, IsSome, OnOk, find, map};
+ghost use Rattle.std.specs.List.{All, AllByRecursion};
 ghost use Rattle.dmn_bytes.specs.Points.{out_point};
 ghost use Rattle.dmn_held.specs.Lists.{outputs_field, rows_field};
 ghost use Rattle.dmn_indexes.specs.Version.{IsWhole, outputs_in, outputs_of, rows_in, values};
 ghost use Rattle.dmn_restore.specs.Formed.{HasFormedPay, IsFormed, IsInForm};
 ghost use Rattle.dmn_restore.specs.Lists.{next_outputs, next_rows};
 ghost use Rattle.dmn_restore.specs.Restored.{listing_in};
+ghost use Rattle.dmn_rows.specs.Rows.{has_hash, has_point};
 
 use crate::fields::{check_pays, hashes_fit, outputs_fit, points_fit, rows_fit};
 use dmn_bytes::{Hash256, Items, Memory, OutPoint, Pay};
@@ -77,6 +78,9 @@ pub fn difference_of(
     // It leads from the older list to the newer one.
     ensures rows { IfOk result (λ d. next_rows d.removed d.put (rows_in indexes.now old.now) ≡ rows_in indexes.now new.now) }
     ensures outputs { IfOk result (λ d. next_outputs d.spent d.added (outputs_in indexes.now old.now) ≡ outputs_in indexes.now new.now) }
+    // What is removed or spent was there.
+    ensures removed { IfOk result (λ d. AllByRecursion (λ hash. IsSome (find (has_hash hash) (rows_in indexes.now old.now))) d.removed) }
+    ensures spent { IfOk result (λ d. AllByRecursion (λ point. IsSome (find (has_point point) (outputs_in indexes.now old.now))) d.spent) }
     ensures form { IsFormed (listing_in indexes.now old.now) → IsFormed (listing_in indexes.now new.now) → IfOk result IsInForm }
 {
     let rows: Delta<Hash256, MnRow> = changes(alloc, &indexes.rows, old.rows, new.rows)?;

@@ -105,8 +105,8 @@ order_stays slots ordered = in_order slots (which slots) ordered
 -- ---- bounds
 
 pub next_bounds : NextKeepsBounds
-next_bounds None next b n place = record { first = omega (arith, n.sequence); most = omega (arith, n.sequence); place = place }
-next_bounds (Some mark) next b n place = record { first = omega (arith, n.sequence); most = omega (arith, n.sequence, b.most, n.records); place = place }
+next_bounds None next b n place end = record { first = omega (arith, n.sequence); most = omega (arith, n.sequence); place = place; end = end }
+next_bounds (Some mark) next b n place end = record { first = omega (arith, n.sequence); most = omega (arith, n.sequence, b.most, n.records); place = place; end = end }
 
 -- which slot is written next
 pub spare_is : (newest : Option Mark) → (spare newest ≡ 1) ⊎ (spare newest ≡ 2)

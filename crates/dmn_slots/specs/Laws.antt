@@ -1,6 +1,6 @@
 -- Laws about the definitions.
-use Rattle.std.specs.Prelude.{◌≡◌, ◌≤◌, Option, None, Some, IfSome}
-use Rattle.dmn_snapshot.specs.Slot.{KeepsBounds}
+use Rattle.std.specs.Prelude.{◌≡◌, ◌<◌, ◌≤◌, ◌^◌, Option, None, Some, IfSome}
+use Rattle.dmn_snapshot.specs.Slot.{IsBounded}
 use Rattle.dmn_snapshot.specs.declared.slot.Stored.{Stored}
 use Rattle.dmn_slots.specs.Slots.{AreInOrder, IsBehind, IsNext, IsWithin, Slots, newest_mark, newest_of, spare, with_spare}
 use Rattle.dmn_slots.specs.declared.mark.Mark.{Mark}
@@ -21,6 +21,6 @@ pub record StayInOrder (slots : Slots) : Type 0 where
 abbrev pub OrderStays : Type 0
 OrderStays = (slots : Slots) → AreInOrder slots → StayInOrder slots
 
--- The next slot keeps its bounds, where the newest keeps them and there are no more records than bytes.
+-- The next slot keeps its bounds, where the newest keeps them and there are no more records than bytes, fewer than 2 ^ 62.
 abbrev pub NextKeepsBounds : Type 0
-NextKeepsBounds = (newest : Option Mark) (next : Stored) → IfSome newest IsWithin → IsBehind newest next → next.records ≤ next.position → KeepsBounds next.sequence next.position next.records
+NextKeepsBounds = (newest : Option Mark) (next : Stored) → IfSome newest IsWithin → IsBehind newest next → next.records ≤ next.position → next.position < 2 ^ 62 → IsBounded next

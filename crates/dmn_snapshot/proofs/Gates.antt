@@ -1,6 +1,6 @@
 -- What a slot's file holds, by its gate and what stands behind.
-use Rattle.std.proofs.Common.{◌≡◌, ◌≢◌, ◌⊎◌, inl, inr, ℕ, suc, ◌-◌, ◌≤◌, ◌==◌, ◌&&◌, not, Bool, true, false, List, [], ◌∷◌, ◌++◌, length, take, drop, get_or, Result, Ok, Err, sym, ap, subst, ◌∙◌, arith, refl, if◌then◌else◌, eq-eqb}
-use Rattle.std.specs.Prelude.{Option, None, Some, nat_le}
+use Rattle.std.proofs.Common.{◌≡◌, ◌≢◌, ◌⊎◌, inl, inr, ℕ, suc, ◌-◌, ◌≤◌, ◌^◌, ◌==◌, ◌&&◌, not, Bool, true, false, List, [], ◌∷◌, ◌++◌, length, take, drop, get_or, Result, Ok, Err, sym, ap, subst, ◌∙◌, arith, refl, if◌then◌else◌, eq-eqb}
+use Rattle.std.specs.Prelude.{Option, None, Some, nat_le, nat_lt}
 use Rattle.std.proofs.lemmas.Bool.{cases_eq, leb-true, le-leb}
 use Rattle.std.proofs.lemmas.Bool.Decides.{nat_tests}
 use Rattle.std.proofs.lemmas.List.{length-drop, take_all}
@@ -12,7 +12,7 @@ use Rattle.dmn_bytes.specs.Reading.{Fails}
 use Rattle.dmn_outside.specs.Changes.{ReadsAt, placed}
 use Rattle.dmn_outside.specs.Disk.{Torn}
 use Rattle.dmn_outside.proofs.Places.{torn_behind, placed_behind, torn_byte, placed_byte}
-use Rattle.dmn_snapshot.specs.Slot.{IsStored, KeepsBounds, first_of, keeps_bounds, open_by, shut_by, slot, slot_behind, slot_in, slot_sound, slot_text, value_of}
+use Rattle.dmn_snapshot.specs.Slot.{IsBounded, IsStored, first_of, keeps_bounds, open_by, shut_by, slot, slot_behind, slot_in, slot_sound, slot_text, value_of}
 use Rattle.dmn_snapshot.specs.Steps.{IsShut, IsOpen, IsLaid}
 use Rattle.dmn_snapshot.specs.declared.slot.Stored.{Stored}
 
@@ -81,22 +81,24 @@ and_both true b e = (refl, e)
 and_both false b e = absurd (let x : false ≡ true = e in cc)
 
 -- a slot keeps its bounds
-pub bounds_of : (stored : Stored) → IsStored stored → KeepsBounds stored.sequence stored.position stored.records
+pub bounds_of : (stored : Stored) → IsStored stored → IsBounded stored
 unfolding slot
 bounds_of stored is =
-    let one = and_both (nat_le 1 stored.sequence && nat_le (stored.sequence - 1) stored.records) (nat_le stored.records stored.position) is.1.1 in
-    let two = and_both (nat_le 1 stored.sequence) (nat_le (stored.sequence - 1) stored.records) one.0 in
-    let first : 1 ≤ stored.sequence = leb-true _ _ two.0 in
-    let most : stored.sequence - 1 ≤ stored.records = leb-true _ _ two.1 in
-    record { first = first; most = omega (arith, first, most); place = leb-true _ _ one.1 }
+    let three = and_both (nat_le 1 stored.sequence && nat_le (stored.sequence - 1) stored.records && nat_le stored.records stored.position) (nat_lt stored.position (2 ^ 62)) is.1.1 in
+    let two = and_both (nat_le 1 stored.sequence && nat_le (stored.sequence - 1) stored.records) (nat_le stored.records stored.position) three.0 in
+    let one = and_both (nat_le 1 stored.sequence) (nat_le (stored.sequence - 1) stored.records) two.0 in
+    let first : 1 ≤ stored.sequence = leb-true _ _ one.0 in
+    let most : stored.sequence - 1 ≤ stored.records = leb-true _ _ one.1 in
+    record { first = first; most = omega (arith, first, most); place = leb-true _ _ two.1; end = leb-true _ _ three.1 }
 
 -- numbers within their bounds pass the test
-pub keeps_bounds_is : (stored : Stored) → KeepsBounds stored.sequence stored.position stored.records → keeps_bounds stored ≡ true
+pub keeps_bounds_is : (stored : Stored) → IsBounded stored → keeps_bounds stored ≡ true
 keeps_bounds_is stored b =
     let first : nat_le 1 stored.sequence ≡ true = le-leb _ _ b.first in
     let most : nat_le (stored.sequence - 1) stored.records ≡ true = le-leb _ _ (omega (arith, b.first, b.most)) in
     let place : nat_le stored.records stored.position ≡ true = le-leb _ _ b.place in
-    rw (first, most, place) refl
+    let end : nat_lt stored.position (2 ^ 62) ≡ true = le-leb _ _ b.end in
+    rw (first, most, place, end) refl
 
 -- ---- one byte torn, or the rest
 

@@ -1,5 +1,5 @@
 -- A slot of a file: a gate, the length of what follows, three numbers, and what is held. A slot is a function of its file.
-use Rattle.std.specs.Prelude.{◌≡◌, ℕ, ◌+◌, ◌-◌, ◌≤◌, ◌==◌, ◌&&◌, Bool, false, not, List, [], ◌∷◌, length, nat_le, nat_lt, if◌then◌else◌, Option, None, Some, Result, Ok, Err, refl}
+use Rattle.std.specs.Prelude.{◌≡◌, ℕ, ◌+◌, ◌-◌, ◌<◌, ◌≤◌, ◌^◌, ◌==◌, ◌&&◌, Bool, false, not, List, [], ◌∷◌, length, nat_le, nat_lt, if◌then◌else◌, Option, None, Some, Result, Ok, Err, refl}
 use Rattle.std.specs.Int.{w64}
 use Rattle.dmn_bytes.specs.declared.fault.Departure.{Departure}
 use Rattle.dmn_bytes.specs.declared.fault.Departure.TheVariants.{Form}
@@ -19,17 +19,22 @@ content = via
     (λ v. (v.sequence, (v.position, (v.records, v.held))))
     (number w64 ⊗ number w64 ⊗ number w64 ⊗ snapshot)
 
--- the bounds of the three numbers
+-- the bounds of the three numbers: no journal has as many as 2 ^ 62 bytes
 pub record KeepsBounds (sequence position records : ℕ) : Type 0 where
   pub first : 1 ≤ sequence
   pub most : sequence ≤ records + 1
   pub place : records ≤ position
+  pub end : position < 2 ^ 62
 
 abbrev pub keeps_bounds : Stored → Bool
-keeps_bounds s = nat_le 1 s.sequence && nat_le (s.sequence - 1) s.records && nat_le s.records s.position
+keeps_bounds s = nat_le 1 s.sequence && nat_le (s.sequence - 1) s.records && nat_le s.records s.position && nat_lt s.position (2 ^ 62)
 
 abbrev pub size_of : Stored → ℕ
 size_of s = length (content.text s)
+
+-- what is stored keeps them
+abbrev pub IsBounded : Stored → Type 0
+IsBounded s = KeepsBounds s.sequence s.position s.records
 
 -- all of a slot behind its gate; the length counts what follows it
 unfoldable pub slot : Format Stored

@@ -1,10 +1,10 @@
 //! The newest of two slots.
 
-ghost use Rattle.std.specs.Prelude.{◌≡◌, ◌+◌, ◌<◌, ◌≤◌, ◌^◌, length, take, drop, true, IfOk, IsErrOf};
+ghost use Rattle.std.specs.Prelude.{◌≡◌, ◌+◌, ◌<◌, ◌≤◌, ◌^◌, length, take, drop, true, IfOk, IfSome, IsErrOf};
 ghost use Rattle.dmn_outside.specs.Changes.{OnlyReads, bytes_read};
 ghost use Rattle.dmn_outside.specs.Counts.{Rose};
 ghost use Rattle.dmn_outside.specs.Disk.{IfReads, pick};
-ghost use Rattle.dmn_snapshot.specs.Slot.{newer, newest_in, slot_in};
+ghost use Rattle.dmn_snapshot.specs.Slot.{IsBounded, newer, newest_in, slot_in};
 ghost use Rattle.dmn_snapshot.specs.Sure.{NeverFails};
 
 use crate::fault::SnapFault;
@@ -45,6 +45,7 @@ fn read_slot<D: Disk>(alloc: Global, disk: &mut D, file: u8) -> Result<Option<St
     requires some { 1 ≤ file }
     requires file { file ≤ 2 }
     ensures slot { IfOk result (λ stored. IfReads (D.disk disk.old).told (λ all. stored ≡ slot_in (pick file all))) }
+    ensures bounds { IfOk result (λ stored. IfSome stored IsBounded) }
     ensures disk { OnlyReads (D.disk disk.old) (D.disk disk.new) }
     ensures read { bytes_read 0 (D.disk disk.new).told ≡ bytes_read 0 (D.disk disk.old).told }
     ensures line { D.line disk.new ≡ D.line disk.old }
@@ -70,7 +71,8 @@ fn read_slot<D: Disk>(alloc: Global, disk: &mut D, file: u8) -> Result<Option<St
 }
 
 fn newer(first: Option<Stored>, second: Option<Stored>) -> Option<Slot>
-    ensures { result ≡ newer first second }
+    ensures is { result ≡ newer first second }
+    ensures bounds { IfSome first IsBounded → IfSome second IsBounded → IfSome result (λ slot. IsBounded slot.stored) }
 {
     match first {
         None => match second {
@@ -106,6 +108,9 @@ fn newer(first: Option<Stored>, second: Option<Stored>) -> Option<Slot>
 /// a text in its form. Nothing of file 0 is read.
 pub fn newest<D: Disk>(alloc: Global, disk: &mut D) -> Result<Option<Slot>, SnapFault>
     ensures newest { IfOk result (λ slot. IfReads (D.disk disk.old).told (λ all. slot ≡ newest_in all)) }
+
+    // Its numbers keep their bounds, whatever the disk tells.
+    ensures bounds { IfOk result (λ slot. IfSome slot (λ slot. IsBounded slot.stored)) }
     ensures disk { OnlyReads (D.disk disk.old) (D.disk disk.new) }
     ensures read { bytes_read 0 (D.disk disk.new).told ≡ bytes_read 0 (D.disk disk.old).told }
     ensures line { D.line disk.new ≡ D.line disk.old }

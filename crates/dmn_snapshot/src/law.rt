@@ -2,7 +2,7 @@
 
 ghost use Rattle.std.specs.Prelude.{◌≡◌, List, ℕ, Some};
 ghost use Rattle.dmn_bytes.specs.Law.{IsBytes};
-ghost use Rattle.dmn_snapshot.specs.Slot.{IsStored, KeepsBounds, slot_in, slot_text};
+ghost use Rattle.dmn_snapshot.specs.Slot.{IsBounded, IsStored, slot_in, slot_text};
 ghost use Rattle.dmn_snapshot.specs.Steps.{IsOpen};
 ghost use Rattle.dmn_snapshot.specs.declared.slot.Stored.{Stored};
 
@@ -14,5 +14,5 @@ pub fn written_slots_are_valid()
 /// A valid slot keeps the bounds of its three numbers, and its text is in its form.
 pub fn slots_keep_bounds()
     ensures stored { (file : List ℕ) (stored : Stored) → IsBytes file → slot_in file ≡ Some stored → IsStored stored }
-    ensures bounds { (file : List ℕ) (stored : Stored) → IsBytes file → slot_in file ≡ Some stored → KeepsBounds stored.sequence stored.position stored.records }
+    ensures bounds { (file : List ℕ) (stored : Stored) → IsBytes file → slot_in file ≡ Some stored → IsBounded stored }
 {}

@@ -1,9 +1,9 @@
 //! What a slot holds, and how it is read.
 
-ghost use Rattle.std.specs.Prelude.{◌≡◌, IfOk};
+ghost use Rattle.std.specs.Prelude.{◌≡◌, true, IfOk, IfSome};
 ghost use Rattle.dmn_bytes.specs.Format.{filled};
 ghost use Rattle.dmn_bytes.specs.Reading.{Gives};
-ghost use Rattle.dmn_snapshot.specs.Slot.{content, keeps_bounds, slot, slot_behind};
+ghost use Rattle.dmn_snapshot.specs.Slot.{IsBounded, content, keeps_bounds, slot, slot_behind};
 
 use dmn_bytes::{Bytes, Departure, Memory, ReadError, Reader};
 use dmn_held::{SnapshotData, read_to_end};
@@ -30,11 +30,13 @@ pub struct Slot {
 }
 
 fn keeps_bounds(stored: &Stored) -> bool
-    ensures { result ≡ keeps_bounds stored.now }
+    ensures is { result ≡ keeps_bounds stored.now }
+    ensures bounds { result ≡ true → IsBounded stored.now }
 {
     1 <= stored.sequence
         && stored.sequence - 1 <= stored.records
         && stored.records <= stored.position
+        && stored.position < 1 << 62
 }
 
 // The three numbers, and what is held up to the end.
@@ -69,7 +71,8 @@ fn read_filled(reader: &mut Reader<'_>, alloc: Global, n: usize) -> Result<Store
 
 #[tactic(auto, unfolding(crate::specs::Slot::slot))]
 fn read_slot(reader: &mut Reader<'_>, alloc: Global) -> Result<Stored, ReadError>
-    ensures { Gives slot reader.old reader.new result }
+    ensures gives { Gives slot reader.old reader.new result }
+    ensures bounds { IfOk result IsBounded }
 {
     let size = reader.u64()?;
     let at = reader.at();
@@ -83,7 +86,8 @@ fn read_slot(reader: &mut Reader<'_>, alloc: Global) -> Result<Stored, ReadError
 
 /// What a slot holds, by its text behind an open gate. None where it isn't valid.
 pub(crate) fn stored_behind(alloc: Global, text: &[u8]) -> Result<Option<Stored>, Memory>
-    ensures { IfOk result (λ stored. stored ≡ slot_behind text.now) }
+    ensures is { IfOk result (λ stored. stored ≡ slot_behind text.now) }
+    ensures bounds { IfOk result (λ stored. IfSome stored IsBounded) }
 {
     let mut reader = Reader::new(text);
     match read_slot(&mut reader, alloc) {

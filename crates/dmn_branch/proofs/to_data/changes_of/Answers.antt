@@ -22,8 +22,8 @@ loop-place-preserved c =
     let at = c.loop-place in
     record {
       height = omega (arith, at.invariant.height);
-      told = λ first. subst (λ (l : List HeightData). AreChanges ix c.args.low c.args.mined.now (get_or held 0 first) (take (at.place + 1) (drop 1 held)) l) (sym c.in_ok-add.ensures)
-          (changes_step ix c.args.low c.args.mined.now held at.place at.height c.get.result.now c.get-in-loop-place.result.now first at.changes.items c.in_ok-change.change (omega (arith, c.loop-place-test.true, c.len-many.ensures)) at.invariant.height c.get.ensures c.get-in-loop-place.ensures (at.invariant.told first) c.in_ok-change.ensures.told);
+      told = λ first. subst (λ (l : List HeightData). AreChanges ix c.args.quorums.now c.args.low c.args.mined.now (get_or held 0 first) (take (at.place + 1) (drop 1 held)) l) (sym c.in_ok-add.ensures)
+          (changes_step ix c.args.quorums.now c.args.low c.args.mined.now held at.place at.height c.get.result.now c.get-in-loop-place.result.now first at.changes.items c.in_ok-change.change (omega (arith, c.loop-place-test.true, c.len-many.ensures)) at.invariant.height c.get.ensures c.get-in-loop-place.ensures (at.invariant.told first) c.in_ok-change.ensures.told);
       form = subst (λ (l : List HeightData). All height_data.Fits l) (sym c.in_ok-add.ensures) (All-push height_data.Fits at.changes.items c.in_ok-change.change at.invariant.form c.in_ok-change.ensures.form);
     }
 
@@ -31,5 +31,5 @@ pub returns-clause-told : goal.returns-clause-told
 returns-clause-told c = λ first is.
     let held = c.args.held.now.held in
     let at = c.loop-place in
-    let told = subst (λ (h : Held). AreChanges c.args.indexes.now c.args.low c.args.mined.now h (take at.place (drop 1 held)) at.changes.items) (last_is held 0 first first is) (at.invariant.told first) in
-    subst (λ (l : List Held). AreChanges c.args.indexes.now c.args.low c.args.mined.now first l at.changes.items) (rest_taken held at.place (omega (arith, c.loop-place-test.false, c.len-many.ensures))) told
+    let told = subst (λ (h : Held). AreChanges c.args.indexes.now c.args.quorums.now c.args.low c.args.mined.now h (take at.place (drop 1 held)) at.changes.items) (last_is held 0 first first is) (at.invariant.told first) in
+    subst (λ (l : List Held). AreChanges c.args.indexes.now c.args.quorums.now c.args.low c.args.mined.now first l at.changes.items) (rest_taken held at.place (omega (arith, c.loop-place-test.false, c.len-many.ensures))) told

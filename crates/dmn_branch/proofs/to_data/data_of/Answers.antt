@@ -28,7 +28,7 @@ returns-clause-told c = λ first is.
           ∙ ap (λ (l : Outputs). record { rows = rows_in ix c.get-first.result.now.version; outputs = l }) c.in_ok-lists.ensures.outputs
           ∙ ap (λ (h : Held). listing_in ix h.version) same;
       active = c.from_vec.ensures ∙ c.in_ok-active.ensures;
-      changes = subst (λ (l : List HeightData). AreChanges ix c.args.low c.args.mined.now first (drop 1 c.args.held.now.held) l) (sym c.from_vec-2.ensures) (c.in_ok-changes.ensures.told first is);
+      changes = subst (λ (l : List HeightData). AreChanges ix c.args.quorums.now c.args.low c.args.mined.now first (drop 1 c.args.held.now.held) l) (sym c.from_vec-2.ensures) (c.in_ok-changes.ensures.told first is);
     }
 
 pub returns-clause-form : goal.returns-clause-form

@@ -7,7 +7,7 @@ use Rattle.dmn_indexes.specs.Version.{outputs_of, values}
 use Rattle.dmn_rows.specs.declared.start.StartOutput.{StartOutput}
 use Rattle.dmn_restore.specs.Formed.{HasFormedPay, HasFormedPays}
 use Rattle.dmn_restore.proofs.Forming.{in_form}
-use Rattle.dmn_restore.proofs.Walked.{added_is, outputs_lead, put_is, removed_is, rows_lead, spent_is}
+use Rattle.dmn_restore.proofs.Walked.{added_is, outputs_lead, put_is, removed_found, removed_is, rows_lead, spent_found, spent_is}
 use Rattle.dmn_restore.proofs.differing.difference_of.Goals as goal
 
 pub returns-clause-rows : goal.returns-clause-rows
@@ -19,6 +19,12 @@ pub returns-clause-outputs : goal.returns-clause-outputs
 returns-clause-outputs c =
     outputs_lead c.args.indexes.now c.args.old.now c.args.new.now c.requires.old c.requires.new c.in_ok-outputs.outputs.gone c.from_vec-2.result c.in_ok-outputs.ensures.gone
     (c.from_vec-2.ensures ∙ c.in_ok-added.ensures ∙ ap outputs_of (c.as_slice-2.ensures ∙ c.in_ok-outputs.ensures.put))
+
+pub returns-clause-removed : goal.returns-clause-removed
+returns-clause-removed c = removed_found c.args.indexes.now c.args.old.now c.args.new.now c.requires.old c.requires.new c.in_ok-rows.rows.gone c.in_ok-rows.ensures.gone
+
+pub returns-clause-spent : goal.returns-clause-spent
+returns-clause-spent c = spent_found c.args.indexes.now c.args.old.now c.args.new.now c.requires.old c.requires.new c.in_ok-outputs.outputs.gone c.in_ok-outputs.ensures.gone
 
 pub returns-clause-form : goal.returns-clause-form
 returns-clause-form c = λ formed then.

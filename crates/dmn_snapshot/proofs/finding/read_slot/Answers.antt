@@ -16,4 +16,4 @@ returns-in-Ok-clause-slot g c =
     let sized = reads_back d0 _ _ same c.in_ok-size.ensures.size in
     let texts = reads_back d0 _ _ (ap unread c.size.ensures.disk.told ∙ same) c.in_ok-text.ensures.text in
     reads_both d0 _ (λ all. (c.in_ok-size.size ≡ length (pick c.args.file all)) × (c.in_ok-text.text.items ≡ take (c.in_ok-size.size - 1) (drop 1 (pick c.args.file all)))) _ c.in_ok-byte.ensures.gate (reads_both d0 _ _ _ sized texts (λ all s t. (s, t)))
-    (λ all is st. open_slot (pick c.args.file all) c.in_ok-text.text.items c.in_ok-size.size c.in_ok-byte.byte c.in-Ok.stored is (sym c.open_by.ensures ∙ c.if-not-open_by.false) st.0 st.1 (c.in-Ok.ensures ∙ ap slot_behind c.as_slice.ensures.value))
+    (λ all is st. open_slot (pick c.args.file all) c.in_ok-text.text.items c.in_ok-size.size c.in_ok-byte.byte c.in-Ok.stored is (sym c.open_by.ensures ∙ c.if-not-open_by.false) st.0 st.1 (c.in-Ok.ensures.is ∙ ap slot_behind c.as_slice.ensures.value))

@@ -7,7 +7,7 @@ use Rattle.dmn_indexes.specs.Version as versions
 use Rattle.dmn_quorums.specs.Duty.{undone}
 use Rattle.dmn_quorums.specs.Forming.{Formed}
 use Rattle.dmn_rows.specs.declared.profile.Profile.{Profile}
-use Rattle.dmn_branch.specs.declared.coinbase.CoinbasePart.{CoinbasePart}
+use Rattle.dmn_held.specs.declared.coinbase.CoinbasePart.{CoinbasePart}
 use Rattle.dmn_branch.specs.declared.held.Held.{Held}
 use Rattle.dmn_branch.specs.Machine as machine
 use Rattle.dmn_branch.specs.Machine.{MachineState, tip}

@@ -52,10 +52,16 @@ returns-clause-moments g c = λ m stands.
     snap_run r m held n stands.registry_stands stands.within holds c.next_mark-next.ensures.is due _ _ _ stands.disk stands.newest
     (c.write.ensures.moments (stored_of n held) is_stored (c.as_slice.ensures ∙ c.in_ok-text.ensures.text) (rests_still n.number m _ stands.disk))
 
+pub returns-in-Ok-clause-sure : goal.returns-in-Ok-clause-sure
+returns-in-Ok-clause-sure g c = λ tells m stands fit.
+    let holds = c.in_ok-held.ensures.holds (state_of m) stands.branch in
+    let long = subst (λ (l : List ℕ). 1 + length l ≤ (g.D.Device.disk c.args.disk.now).room) (sym (c.as_slice.ensures ∙ c.in_ok-text.ensures.text)) (fit (stored_of c.next_mark-next.result c.in_ok-held.held) holds (c.in_ok-held.ensures.lean (state_of m) stands.branch)) in
+    record { disk = (c.in-Ok.ensures.sure tells long).1; answer = λ wrong. let no : ⊥ = cc in no }
+
 pub returns-clause-sure : goal.returns-clause-sure
 returns-clause-sure g c = λ tells m stands fit.
     let holds = c.in_ok-held.ensures.holds (state_of m) stands.branch in
-    let long = subst (λ (l : List ℕ). 1 + length l ≤ (g.D.Device.disk c.args.disk.now).room) (sym (c.as_slice.ensures ∙ c.in_ok-text.ensures.text)) (fit (stored_of c.next_mark-next.result c.in_ok-held.held) holds) in
+    let long = subst (λ (l : List ℕ). 1 + length l ≤ (g.D.Device.disk c.args.disk.now).room) (sym (c.as_slice.ensures ∙ c.in_ok-text.ensures.text)) (fit (stored_of c.next_mark-next.result c.in_ok-held.held) holds (c.in_ok-held.ensures.lean (state_of m) stands.branch)) in
     let wrong = (c.in-Err.ensures.sure tells long).0 in
     let never : ⊥ = cc in
     absurd never

@@ -9,8 +9,7 @@ use Rattle.std.specs.Int.{w32, to_le_bytes}
 use Rattle.std.specs.Option.{option_map_or}
 use Rattle.dmn_block.specs.State.{State}
 use Rattle.dmn_branch.specs.Asked.{IsShown, IsToldOf, LeavesOut, Lends, Lent, hashes_gone, rows_at}
-use Rattle.dmn_branch.specs.Coinbases.{coinbase_of}
-use Rattle.dmn_branch.specs.declared.coinbase.CoinbasePart.{CoinbasePart}
+use Rattle.dmn_branch.specs.Coinbases.{CoinbasePart, coinbase_of}
 use Rattle.dmn_branch.specs.Parts.{StandsIn}
 use Rattle.dmn_branch.specs.Stands.{IsHeld, Kept, Keeping, StandsFor, low_kept}
 use Rattle.dmn_branch.proofs.Standing.{held_stands}
@@ -31,7 +30,7 @@ use Rattle.dmn_desk.specs.declared.answer.Answer.TheVariants.{Grown}
 use Rattle.dmn_desk.specs.declared.answer.GrownAnswer.TheVariants as grown
 use Rattle.dmn_desk.specs.declared.changes.Heights.{Heights}
 use Rattle.dmn_desk.specs.Ask.{diff_by, diff_to, entries_told, of_state}
-use Rattle.dmn_desk.specs.Framed.{framed}
+use Rattle.dmn_frames.specs.Frames.{framed}
 use Rattle.dmn_desk.specs.Kept.{HasHeight, IsChange}
 
 -- a frame whose length is known before its body is sent

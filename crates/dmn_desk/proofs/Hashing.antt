@@ -5,7 +5,8 @@ use Rattle.std.specs.List.{flat_map}
 use Rattle.std.proofs.lemmas.List.{length-append}
 use Rattle.dmn_bytes.specs.declared.hash.Hash256.{Hash256}
 use Rattle.dmn_bytes.specs.Format.{hash}
-use Rattle.dmn_desk.specs.Framed.{framed, hashes_body}
+use Rattle.dmn_desk.specs.Framed.{hashes_body}
+use Rattle.dmn_frames.specs.Frames.{framed}
 use Rattle.dmn_desk.proofs.Listing.{texts_more}
 
 -- one hash more

@@ -6,6 +6,7 @@ mod Paging
 mod Keeping
 mod Diffing
 mod Commanding
+mod Marking
 mod Rowing
 pub mod Bodies
 pub mod Asking

@@ -19,7 +19,8 @@ use Rattle.dmn_sml.proofs.Pages.{entry_length}
 use Rattle.dmn_desk.specs.declared.answer.Answer.TheVariants.{Grown}
 use Rattle.dmn_desk.specs.declared.answer.GrownAnswer.TheVariants as grown
 use Rattle.dmn_desk.specs.Ask.{list_at, list_of, of_state}
-use Rattle.dmn_desk.specs.Framed.{framed, list_body}
+use Rattle.dmn_desk.specs.Framed.{list_body}
+use Rattle.dmn_frames.specs.Frames.{framed}
 use Rattle.dmn_desk.proofs.Heights.{told_held}
 
 -- one text more

@@ -17,7 +17,8 @@ use Rattle.dmn_desk.specs.declared.answer.Answer.TheVariants.{Grown, Short}
 use Rattle.dmn_desk.specs.declared.answer.GrownAnswer.TheVariants as grown
 use Rattle.dmn_desk.specs.declared.answer.ShortAnswer.TheVariants as short
 use Rattle.dmn_desk.specs.Ask.{page_by}
-use Rattle.dmn_desk.specs.Framed.{framed, page_body}
+use Rattle.dmn_desk.specs.Framed.{page_body}
+use Rattle.dmn_frames.specs.Frames.{framed}
 
 -- the count before the entries: 2 bytes
 pub page_length : (entries : List SmlEntry) → length (flat_map entry.text entries) ≡ 151 * length entries → length (page_body entries) ≡ 2 + 151 * length entries

@@ -6,7 +6,7 @@ use Rattle.dmn_rows.specs.declared.row.MnRow.{MnRow}
 use Rattle.dmn_rows.specs.Row.{plain}
 use Rattle.dmn_rows.specs.RowText.{HasLengths, row_text}
 use Rattle.dmn_rows.proofs.Lengths.{row_length}
-use Rattle.dmn_desk.specs.Framed.{framed}
+use Rattle.dmn_frames.specs.Frames.{framed}
 
 -- at each height a row's fields have their lengths
 lengths_plain : (h : ℕ) (r : MnRow) → HasLengths r → HasLengths (plain h r)

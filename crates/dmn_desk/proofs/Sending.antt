@@ -5,7 +5,8 @@ use Rattle.std.specs.List.{flat_map}
 use Rattle.std.proofs.lemmas.List.{length-append}
 use Rattle.dmn_payloads.specs.declared.commitment.Commitment.{Commitment}
 use Rattle.dmn_payloads.specs.Commitments.{commitment}
-use Rattle.dmn_desk.specs.Framed.{framed, quorums_body}
+use Rattle.dmn_desk.specs.Framed.{quorums_body}
+use Rattle.dmn_frames.specs.Frames.{framed}
 
 -- the count before the commitments: 2 bytes
 pub quorums_length : (commitments : List Commitment) → length (quorums_body commitments) ≡ 2 + length (flat_map commitment.text commitments)

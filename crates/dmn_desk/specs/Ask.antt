@@ -8,8 +8,7 @@ use Rattle.dmn_block.specs.State.{State}
 use Rattle.dmn_branch.specs.declared.fault.DisconnectRefusal.{DisconnectRefusal}
 use Rattle.dmn_branch.specs.declared.fault.DisconnectRefusal.TheVariants as refusals
 use Rattle.dmn_branch.specs.Asked.{members_in, payees_of, quorums_in, row_of, rows_at}
-use Rattle.dmn_branch.specs.Coinbases.{coinbase_of}
-use Rattle.dmn_branch.specs.declared.coinbase.CoinbasePart.{CoinbasePart}
+use Rattle.dmn_branch.specs.Coinbases.{CoinbasePart, coinbase_of}
 use Rattle.dmn_branch.specs.Machine as machine
 use Rattle.dmn_branch.specs.Machine.{MachineState, height_of, is_held, low, state_at, tip, top}
 use Rattle.dmn_branch.specs.Pins.{Pinned, free_number, page_of, pin_of}

@@ -4,11 +4,13 @@ use Rattle.dmn_branch.specs.Stands as branches
 use Rattle.dmn_branch.specs.Stands.{Keeping}
 use Rattle.dmn_journal.specs.Journal.{Entry, size_of_record}
 use Rattle.dmn_outside.specs.declared.device.DiskFault.{DiskFault}
-use Rattle.dmn_outside.specs.Disk.{DiskView, Three, Told}
+use Rattle.dmn_outside.specs.Disk.{DiskView, IfReads, Three, Told}
 use Rattle.dmn_outside.specs.Failing.{KeepsDisk}
 use Rattle.dmn_registry.specs.declared.registry.Registry.{Registry}
 use Rattle.dmn_registry.specs.Machine.{Machine, connecting, disconnecting, state_of}
 use Rattle.dmn_registry.specs.Own.{IsOwn, OwnWith, StandsOn}
+use Rattle.dmn_registry.specs.Snapshots.{moved}
+use Rattle.dmn_slots.specs.Slots.{records_of}
 use Rattle.dmn_desk.specs.declared.answer.Answer.{Answer}
 use Rattle.dmn_desk.specs.declared.answer.Answer.TheVariants.{Short}
 use Rattle.dmn_desk.specs.declared.answer.ShortAnswer.TheVariants as short
@@ -52,6 +54,19 @@ MayHold m (Some entry) image = OwnWith m entry image
 abbrev pub HasRoom : Option Entry → ℕ → ℕ → Type 0
 HasRoom None end room = Unit {0}
 HasRoom (Some entry) end room = end + 1 + size_of_record entry ≤ room
+
+-- Where the newest slot stands behind a block: one that is added finds a snapshot written where one was due, and one that is not
+-- leaves the slots. Without memory, or after a disk fault, nothing is said of it.
+abbrev pub MarksBlock : Result Answer DiskFault → Machine → Registry → Registry → Told → Type 0
+MarksBlock (Ok (Short (short.Connected height hash))) m old new told = records_of new.newest ≡ moved m old
+MarksBlock (Ok (Short short.Memory)) m old new told = Unit {0}
+MarksBlock (Ok answer) m old new told = IfReads told (λ all. new.newest ≡ old.newest)
+MarksBlock (Err fault) m old new told = Unit {0}
+
+-- and behind any request
+abbrev pub Marks : Request → Result Answer DiskFault → Machine → Registry → Registry → Told → Type 0
+Marks (Connect block body) r m old new told = MarksBlock r m old new told
+Marks request r m old new told = new.newest ≡ old.newest
 
 -- every answer but that to a command which is accepted
 abbrev pub IsIdle : Result Answer DiskFault → Type 0

@@ -1,4 +1,4 @@
--- The bodies of answers, and the frame round them.
+-- The bodies of answers.
 use Rattle.std.specs.Prelude.{ℕ, List, ◌∷◌, ◌++◌, length, Option, None, Some}
 use Rattle.std.specs.List.{flat_map}
 use Rattle.std.specs.Int.{w16, w32, to_le_bytes}
@@ -11,10 +11,6 @@ use Rattle.dmn_rows.specs.Rule.{rule_number}
 use Rattle.dmn_sml.specs.declared.entry.SmlEntry.{SmlEntry}
 use Rattle.dmn_sml.specs.Entry.{entry}
 use Rattle.dmn_desk.specs.RuleFields.{rule_fields}
-
--- an answer frame: a status, the body's length, the body
-unfoldable pub framed : ℕ → List ℕ → List ℕ
-framed status body = status ∷ (to_le_bytes w32 (length body) ++ body)
 
 unfoldable pub connected_body : ℕ → Hash256 → List ℕ
 connected_body height hash = to_le_bytes w32 height ++ hash.0

@@ -8,7 +8,8 @@ use Rattle.dmn_desk.specs.declared.answer.GrownAnswer.{GrownAnswer}
 use Rattle.dmn_desk.specs.declared.answer.GrownAnswer.TheVariants as grown
 use Rattle.dmn_desk.specs.declared.answer.ShortAnswer.{ShortAnswer}
 use Rattle.dmn_desk.specs.declared.answer.ShortAnswer.TheVariants.{Connected, Disconnected, Tip, Pinned, Released, PinsFull, PinUnknown, Memory, BadRequest, NotHeld, Refused, NotTip, AtStart, TooDeep, JournalFull, NoSuch, BaseAbove}
-use Rattle.dmn_desk.specs.Framed.{framed, connected_body, tip_body, held_body, list_body, refused_body, most_items, hashes_body, page_body, quorums_body}
+use Rattle.dmn_desk.specs.Framed.{connected_body, tip_body, held_body, list_body, refused_body, most_items, hashes_body, page_body, quorums_body}
+use Rattle.dmn_frames.specs.Frames.{framed}
 use Rattle.dmn_diff.specs.Defs.{diff_text}
 use Rattle.dmn_payloads.specs.declared.commitment.Commitment.{Commitment}
 use Rattle.dmn_rows.specs.RowText.{row_text}

@@ -2,7 +2,8 @@
 
 ghost use Rattle.std.specs.Prelude.{◌≡◌, ◌≤◌, [], ◌∷◌, length};
 ghost use Rattle.std.specs.Int.{w32, to_le_bytes};
-ghost use Rattle.dmn_desk.specs.Framed.{framed, connected_body, tip_body, held_body, refused_body};
+ghost use Rattle.dmn_desk.specs.Framed.{connected_body, tip_body, held_body, refused_body};
+ghost use Rattle.dmn_frames.specs.Frames.{framed};
 
 use crate::rule_fields::rule_fields;
 use dmn_block::Refusal;
@@ -21,7 +22,7 @@ pub fn head(status: u8, size: u32) -> Short
 }
 
 /// A frame of this status and body.
-#[tactic(auto, unfolding(crate::specs::Framed::framed))]
+#[tactic(auto, unfolding(dmn_frames::specs::Frames::framed))]
 pub fn framed(status: u8, body: &[u8]) -> Short
     requires { length body.now ≤ 100 }
     ensures { result ≡ framed status body.now }

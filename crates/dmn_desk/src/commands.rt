@@ -7,7 +7,7 @@ ghost use Rattle.dmn_outside.specs.Crashes.{LeavesOnly};
 ghost use Rattle.dmn_registry.specs.Machine.{Machine, connecting, disconnecting};
 ghost use Rattle.dmn_registry.specs.Own.{OwnWith, StandsOn};
 ghost use Rattle.dmn_registry.specs.Snapshots.{HasRoomForSnapshot};
-ghost use Rattle.dmn_desk.specs.Asked.{Answers, AnswersSurely, HasRoom, IsIdle};
+ghost use Rattle.dmn_desk.specs.Asked.{Answers, AnswersSurely, HasRoom, IsIdle, MarksBlock};
 ghost use Rattle.dmn_desk.specs.declared.request.Request.TheVariants as requests;
 ghost use Rattle.dmn_desk.specs.Texts.{IsBounded};
 
@@ -35,6 +35,7 @@ pub fn connect<D: Disk>(
     ensures bounded { IfOk result IsBounded }
     ensures moments { (m : Machine) → StandsOn registry.old m (D.disk disk.old).told
         → LeavesOnly (D.time disk.old) (D.disk disk.old) (D.disk disk.new) (OwnWith m (connecting body.now)) }
+    ensures mark { (m : Machine) → StandsOn registry.old m (D.disk disk.old).told → MarksBlock result m registry.old registry.new (D.disk disk.new).told }
     ensures idle { IsIdle result → D.disk disk.new ≡ D.disk disk.old }
     ensures usable { OnOk result (registry.new.spent ≡ false) }
     ensures spent { OnErr result (registry.new.spent ≡ true) }
@@ -74,6 +75,7 @@ impl Desk {
         ensures bounded { IfOk result IsBounded }
         ensures moments { (m : Machine) → StandsOn registry.old m (D.disk disk.old).told
             → LeavesOnly (D.time disk.old) (D.disk disk.old) (D.disk disk.new) (OwnWith m (disconnecting hash.now)) }
+        ensures newest { registry.new.newest ≡ registry.old.newest }
         ensures idle { IsIdle result → D.disk disk.new ≡ D.disk disk.old }
         ensures usable { OnOk result (registry.new.spent ≡ false) }
         ensures spent { OnErr result (registry.new.spent ≡ true) }

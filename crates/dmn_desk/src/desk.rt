@@ -9,7 +9,7 @@ ghost use Rattle.dmn_registry.specs.Machine.{Machine, state_of};
 ghost use Rattle.dmn_registry.specs.Own.{StandsOn};
 ghost use Rattle.dmn_registry.specs.Snapshots.{HasRoomForSnapshot};
 ghost use Rattle.dmn_desk.specs.Ask.{ask, tip_of};
-ghost use Rattle.dmn_desk.specs.Asked.{Answers, AnswersSurely, HasRoom, IsIdle, MayHold, TellsOrLacks, entry_by};
+ghost use Rattle.dmn_desk.specs.Asked.{Answers, AnswersSurely, HasRoom, IsIdle, Marks, MayHold, TellsOrLacks, entry_by};
 ghost use Rattle.dmn_desk.specs.Kept.{IsTrueTo, StayChanges};
 ghost use Rattle.dmn_desk.specs.Requests.{IsRequest, is_question};
 ghost use Rattle.dmn_desk.specs.Texts.{IsBounded};
@@ -90,6 +90,9 @@ impl Desk {
         ensures moments { (m : Machine) → StandsOn registry.old m (D.disk disk.old).told
             → LeavesOnly (D.time disk.old) (D.disk disk.old) (D.disk disk.new) (MayHold m (entry_by request.now)) }
 
+        // A snapshot is written exactly where one is due for a block that is added.
+        ensures mark { (m : Machine) → StandsOn registry.old m (D.disk disk.old).told → Marks request.now result m registry.old registry.new (D.disk disk.new).told }
+
         // Only a command that is accepted, or a disk fault, makes a call of the disk.
         ensures idle { IsIdle result → D.disk disk.new ≡ D.disk disk.old }
         ensures usable { OnOk result (registry.new.spent ≡ false) }
@@ -125,6 +128,7 @@ impl Desk {
     // The answer to a question, or Memory.
     fn tell_or_memory(&mut self, alloc: Global, branch: &Branch, request: &Request) -> Answer
         requires { is_question request.now ≡ true }
+        ensures question { is_question request.now ≡ true }
         ensures tells { TellsOrLacks request.now result self.old branch.now }
         ensures stay { StayChanges branch.now self.old.changes self.new.changes }
         ensures bounded { IsBounded result }

@@ -7,7 +7,7 @@ ghost use Rattle.dmn_branch.specs.Stands.{IsHeld, StandsFor};
 ghost use Rattle.dmn_bytes.specs.Sending.{Appends};
 ghost use Rattle.dmn_diff.specs.Defs.{diff_text};
 ghost use Rattle.dmn_desk.specs.Ask.{diff, diff_to, diff_until, is_above, of_state};
-ghost use Rattle.dmn_desk.specs.Framed.{framed};
+ghost use Rattle.dmn_frames.specs.Frames.{framed};
 ghost use Rattle.dmn_desk.specs.Kept.{AreChanges, StayChanges};
 ghost use Rattle.dmn_desk.specs.Texts.{IsBounded};
 

@@ -4,7 +4,8 @@ ghost use Rattle.std.specs.Prelude.{◌≡◌, ◌*◌, ◌^◌, ◌<◌, ◌≤
 ghost use Rattle.std.specs.List.{flat_map};
 ghost use Rattle.dmn_bytes.specs.Format.{hash};
 ghost use Rattle.dmn_bytes.specs.Sending.{Appends};
-ghost use Rattle.dmn_desk.specs.Framed.{framed, hashes_body, most_items};
+ghost use Rattle.dmn_desk.specs.Framed.{hashes_body, most_items};
+ghost use Rattle.dmn_frames.specs.Frames.{framed};
 
 use crate::list::hash_length;
 use dmn_bytes::{Hash256, Sink, Text, feed_count, feed_many};

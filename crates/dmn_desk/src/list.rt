@@ -11,7 +11,8 @@ ghost use Rattle.dmn_sml.specs.Defs.{simple};
 ghost use Rattle.dmn_sml.specs.Entry.{entry, entry_of};
 ghost use Rattle.dmn_sml.specs.Page.{HasLengths};
 ghost use Rattle.dmn_desk.specs.Ask.{list_at};
-ghost use Rattle.dmn_desk.specs.Framed.{framed, list_body};
+ghost use Rattle.dmn_desk.specs.Framed.{list_body};
+ghost use Rattle.dmn_frames.specs.Frames.{framed};
 ghost use Rattle.dmn_desk.specs.Texts.{IsBounded};
 
 use crate::answer::{Answer, GrownAnswer};

@@ -10,7 +10,8 @@ ghost use Rattle.dmn_indexes.specs.Version.{values};
 ghost use Rattle.dmn_sml.specs.Defs.{simple};
 ghost use Rattle.dmn_walk.specs.Page.{IsReady, pairs_left};
 ghost use Rattle.dmn_desk.specs.Ask.{page};
-ghost use Rattle.dmn_desk.specs.Framed.{framed, most_items, page_body};
+ghost use Rattle.dmn_desk.specs.Framed.{most_items, page_body};
+ghost use Rattle.dmn_frames.specs.Frames.{framed};
 ghost use Rattle.dmn_desk.specs.Texts.{IsBounded};
 
 use crate::answer::{Answer, GrownAnswer, ShortAnswer};

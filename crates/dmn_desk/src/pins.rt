@@ -16,6 +16,7 @@ use dmn_registry::Registry;
 pub fn pin(registry: &mut Registry, height: u32) -> Answer
     requires { registry.old.spent ≡ false }
     ensures answers { (desk : Desk) (told : Told) → Answers (requests.Pin height) (Ok result) desk desk registry.old registry.new told told }
+    ensures newest { registry.new.newest ≡ registry.old.newest }
     ensures spent { registry.new.spent ≡ false }
     ensures bounded { IsBounded result }
 {
@@ -34,6 +35,7 @@ pub fn pin(registry: &mut Registry, height: u32) -> Answer
 pub fn release(registry: &mut Registry, number: u32) -> Answer
     requires { registry.old.spent ≡ false }
     ensures answers { (desk : Desk) (told : Told) → Answers (requests.Release number) (Ok result) desk desk registry.old registry.new told told }
+    ensures newest { registry.new.newest ≡ registry.old.newest }
     ensures spent { registry.new.spent ≡ false }
     ensures bounded { IsBounded result }
 {

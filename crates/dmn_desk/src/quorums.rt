@@ -5,7 +5,8 @@ ghost use Rattle.dmn_branch.specs.Machine.{MachineState};
 ghost use Rattle.dmn_branch.specs.Stands.{StandsFor};
 ghost use Rattle.dmn_bytes.specs.Sending.{Appends};
 ghost use Rattle.dmn_desk.specs.Ask.{quorums_at};
-ghost use Rattle.dmn_desk.specs.Framed.{framed, quorums_body};
+ghost use Rattle.dmn_desk.specs.Framed.{quorums_body};
+ghost use Rattle.dmn_frames.specs.Frames.{framed};
 ghost use Rattle.dmn_desk.specs.Texts.{IsBounded, IsSendable};
 
 use crate::answer::{Answer, GrownAnswer};

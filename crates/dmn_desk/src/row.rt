@@ -6,7 +6,7 @@ ghost use Rattle.dmn_branch.specs.Stands.{StandsFor};
 ghost use Rattle.dmn_rows.specs.Row.{plain};
 ghost use Rattle.dmn_rows.specs.RowText.{HasLengths, row_text};
 ghost use Rattle.dmn_desk.specs.Ask.{row_at};
-ghost use Rattle.dmn_desk.specs.Framed.{framed};
+ghost use Rattle.dmn_frames.specs.Frames.{framed};
 ghost use Rattle.dmn_desk.specs.Texts.{IsBounded};
 
 use crate::answer::{Answer, GrownAnswer, ShortAnswer};

@@ -1,6 +1,5 @@
-mod Chains
 pub mod Ending
-mod Fed
+pub mod Fed
 mod Fronts
 mod Growing
 mod Opened

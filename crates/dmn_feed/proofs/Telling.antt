@@ -8,9 +8,8 @@ use Rattle.std.proofs.lemmas.List.Elements.{All-head, All-tail}
 use Rattle.dmn_desk.specs.declared.answer.Answer.{Answer}
 use Rattle.dmn_desk.specs.declared.answer.Answer.TheVariants.{Short, Grown}
 use Rattle.dmn_desk.specs.declared.answer.ShortAnswer.TheVariants as short
-use Rattle.dmn_desk.specs.Framed.{framed}
 use Rattle.dmn_desk.specs.Texts.{Fits, body_of, frame_of, status_of}
-use Rattle.dmn_frames.specs.Frames.{frame_at, Begins}
+use Rattle.dmn_frames.specs.Frames.{frame_at, framed, Begins}
 use Rattle.dmn_feed.specs.Laws.{AnswersTellOfMemory, as_frame}
 use Rattle.dmn_frames.proofs.Cutting.{nothing_at_end, same_cut}
 use Rattle.dmn_frames.proofs.Framing.{frame_by}

@@ -1,8 +1,7 @@
 -- What `feed` sends for what it is given, and what a crash leaves of it. A reader begins here; the parts are:
 --   Serving   what may be answered to frames, and when its bytes are sent; want of memory is free
 --   Outcome   what a run has read and sent, and what a crash may leave since its start, by its status
---   Laws      statuses are exact, each front of a run is served, the bytes tell of Memory; and a chain of runs keeps each
---             command that was answered
+--   Laws      statuses are exact, each front of a run is served, the bytes tell of Memory
 --   Stamps    when answers are sent: each behind the moment at which its turn began
 --   Bodies    how much of a frame's body is read, and what is done with the frame by what was kept of it
 --   Steps     what the private parts of a turn do

@@ -1,6 +1,6 @@
-//! Laws about the definitions, and about runs.
+//! Laws about the definitions.
 
-ghost use Rattle.dmn_feed.specs.Laws.{AnswersTellOfMemory, ChainsKeepAnswered, EachFrontIsServed, ImagesHaveFronts, StatusesAreExact};
+ghost use Rattle.dmn_feed.specs.Laws.{AnswersTellOfMemory, EachFrontIsServed, StatusesAreExact};
 
 /// Done, CutInput and Enough come each exactly where the text says so.
 pub fn statuses_are_exact()
@@ -16,15 +16,4 @@ pub fn each_front_is_served()
 /// answer is Memory.
 pub fn answers_tell_of_memory()
     ensures { AnswersTellOfMemory }
-{}
-
-/// What a crash leaves between two machines has the commands of the one, and then a front of those until the other.
-pub fn images_have_fronts()
-    ensures { ImagesHaveFronts }
-{}
-
-/// Runs one behind the other, each on what a crash left of the one before: the last image is own, and has each command that
-/// was answered in any of them, in order.
-pub fn chains_keep_answered()
-    ensures { ChainsKeepAnswered }
 {}

@@ -8,7 +8,4 @@ mod laws;
 mod reply;
 
 pub use feeding::feed;
-pub use laws::{
-    answers_tell_of_memory, chains_keep_answered, each_front_is_served, images_have_fronts,
-    statuses_are_exact,
-};
+pub use laws::{answers_tell_of_memory, each_front_is_served, statuses_are_exact};

@@ -1,7 +1,7 @@
 -- The body of an answer, behind the head of its frame.
 use Rattle.std.proofs.Common.{◌≡◌, ℕ, ◌≤◌, List, [], ◌++◌, length, drop, refl, ap, ◌∙◌, arith}
 use Rattle.dmn_desk.specs.declared.answer.Answer.{Answer}
-use Rattle.dmn_desk.specs.Framed.{framed}
+use Rattle.dmn_frames.specs.Frames.{framed}
 use Rattle.dmn_desk.specs.Texts.{body_of, frame_of, status_of}
 
 behind_head : (status : ℕ) (body : List ℕ) → drop 5 (framed status body) ≡ body

@@ -1,3 +1,2 @@
-mod Lengths
 mod Reading
 pub mod Starting

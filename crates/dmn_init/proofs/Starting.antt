@@ -23,8 +23,9 @@ use Rattle.dmn_status.specs.declared.status.Status.TheVariants as statuses
 use Rattle.dmn_init.specs.declared.input.TheConstants.{MOST_READ}
 use Rattle.dmn_registry.specs.Faithful.{IsFaithful, longest_tail}
 use Rattle.dmn_registry.specs.Machine.{begun}
+use Rattle.dmn_registry.specs.Opening.{Reading}
 use Rattle.dmn_registry.specs.Own.{IsOwn}
-use Rattle.dmn_init.proofs.Lengths.{start_long}
+use Rattle.dmn_registry.proofs.Lengths.{start_long}
 use Rattle.dmn_init.specs.Init.{EndsWell, Inits, IsBlankOrMade, IsMade, Makes, OfMaking}
 
 -- ---- a header that is made
@@ -152,3 +153,10 @@ made_well statuses.Enough told text input start which makes calm is of = absurd 
 
 pub no_line_fault : (status : Status) → OfMaking status → status ≡ statuses.LineFault → ⊥
 no_line_fault status which is = subst OfMaking is which
+
+-- ---- a file that is not blank
+
+pub never_blank : (told : Told) → Reading (λ all. IsBlank all.zeroth → ⊥) told → IfReads told (λ all. IsBlank all.zeroth) → ⊥
+never_blank nothing held blank = held
+never_blank (contents c) held blank = held blank
+never_blank (whole w) held blank = held blank

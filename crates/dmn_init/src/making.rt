@@ -8,6 +8,7 @@ ghost use Rattle.dmn_outside.specs.Disk.{IfReads};
 ghost use Rattle.dmn_outside.specs.Failing.{DoesSurely};
 ghost use Rattle.dmn_outside.specs.Later.{IsQuiet};
 ghost use Rattle.dmn_journal.specs.Create.{IsBlank, IsBlankDisk};
+ghost use Rattle.dmn_registry.specs.Opening.{Reading};
 ghost use Rattle.dmn_rows.specs.Defs.{IsStartText};
 ghost use Rattle.dmn_rows.specs.declared.start.StartRecord.{StartRecord};
 ghost use Rattle.dmn_init.specs.Init.{Blanks, ComesBefore, EndsWell, Inits, IsBlankOrMade, MakesSurely, Makes, NeverFaults, OfInit, OfMaking};
@@ -67,6 +68,9 @@ pub fn init<T: Station>(alloc: Global, station: &mut T) -> Status
 
     // What comes before the first write leaves the files as they were.
     ensures before { ComesBefore result → OnlyReads (T.disk station.old) (T.disk station.new) }
+
+    // Where file 0 is not blank nothing is written, however it ends.
+    ensures kept { Reading (λ all. ¬ IsBlank all.zeroth) (T.disk station.old).told → OnlyReads (T.disk station.old) (T.disk station.new) }
 
     // Where each image was blank, a crash at any moment leaves a blank one, or one that is own, with the input's start
     // record and no command.

@@ -2,9 +2,8 @@
 use Rattle.std.proofs.Common.{◌≡◌, ℕ, zero, suc, ◌-◌, Bool, true, false, cond, List, [], ◌∷◌, length, refl, sym, ap, subst, ◌∙◌, arith, inl, inr}
 use Rattle.std.specs.Prelude.{Contains, MatchBool, Option, None, Some, slice_get}
 use Rattle.dmn_block.specs.State.{State}
-use Rattle.dmn_branch.specs.declared.coinbase.CoinbasePart.{CoinbasePart}
 use Rattle.dmn_branch.specs.Asked.{rows_at}
-use Rattle.dmn_branch.specs.Coinbases.{coinbase_of}
+use Rattle.dmn_branch.specs.Coinbases.{CoinbasePart, coinbase_of}
 use Rattle.dmn_branch.specs.Machine.{MachineState, branch, height_of, history, rows_of, state_at}
 use Rattle.dmn_branch.specs.Replay.{replay}
 use Rattle.dmn_bytes.specs.declared.hash.Hash256.{Hash256}

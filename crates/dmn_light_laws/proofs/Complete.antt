@@ -8,8 +8,7 @@ use Rattle.std.proofs.lemmas.List.Filters.{length-filter_both}
 use Rattle.dmn_block.specs.declared.frame.BlockFrame.{BlockFrame}
 use Rattle.dmn_block.specs.Defs.{most_items}
 use Rattle.dmn_block.specs.State.{State}
-use Rattle.dmn_branch.specs.declared.coinbase.CoinbasePart.{CoinbasePart}
-use Rattle.dmn_branch.specs.Coinbases.{part_in, part_of}
+use Rattle.dmn_branch.specs.Coinbases.{CoinbasePart, part_in, part_of}
 use Rattle.dmn_branch.specs.Step.{most_rows}
 use Rattle.dmn_bytes.specs.declared.hash.Hash256.{Hash256}
 use Rattle.dmn_client.specs.Sound.{IsDiffOf, RowFits}

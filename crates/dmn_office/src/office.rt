@@ -6,9 +6,9 @@ ghost use Rattle.dmn_outside.specs.Crashes.{IsKnown, LeavesOnly};
 ghost use Rattle.dmn_journal.specs.Sure.{NeverFails};
 ghost use Rattle.dmn_registry.specs.Machine.{Machine, at_rest};
 ghost use Rattle.dmn_registry.specs.Opening.{HasTrueSlot, Reading};
-ghost use Rattle.dmn_registry.specs.Own.{IsOwn};
+ghost use Rattle.dmn_registry.specs.Own.{IsOwn, StandsOn};
 ghost use Rattle.dmn_registry.specs.Snapshots.{HasRoomForSnapshot};
-ghost use Rattle.dmn_desk.specs.Asked.{AnswersSurely, HasRoom, entry_by};
+ghost use Rattle.dmn_desk.specs.Asked.{AnswersSurely, HasRoom, Marks, entry_by};
 ghost use Rattle.dmn_desk.specs.Requests.{IsRequest};
 ghost use Rattle.dmn_desk.specs.Texts.{IsBounded};
 ghost use Rattle.dmn_office.specs.Offices.{Gives, OpensOn, Recovers, StopsFor};
@@ -97,6 +97,9 @@ impl Office {
         // image that is own of a machine on the way there. After a disk fault a command in hand may be there or not.
         ensures gives { Gives result request.now (D.time disk.old) (D.disk disk.old) (D.disk disk.new) self.old self.new }
         ensures bounded { IfOk result IsBounded }
+
+        // A snapshot is written exactly where one is due for a block that is added.
+        ensures mark { (m : Machine) → StandsOn self.old.registry m (D.disk disk.old).told → Marks request.now result m self.old.registry self.new.registry (D.disk disk.new).told }
         ensures usable { OnOk result (self.new.registry.spent ≡ false) }
         ensures line { D.line disk.new ≡ D.line disk.old }
         ensures room { D.room disk.new ≡ D.room disk.old }

@@ -4,7 +4,7 @@ use Rattle.dmn_outside.specs.Changes.{OnlyReads}
 use Rattle.dmn_outside.specs.Disk.{DiskView}
 use Rattle.dmn_outside.specs.Line.{LineView}
 use Rattle.dmn_init.specs.declared.input.TheConstants.{MOST_READ}
-use Rattle.dmn_init.proofs.Starting.{init_made, made_well, no_line_fault, starts_input, still_blank, then_made}
+use Rattle.dmn_init.proofs.Starting.{init_made, made_well, never_blank, no_line_fault, starts_input, still_blank, then_made}
 use Rattle.dmn_init.proofs.making.init.Goals as goal
 
 pub returns-in-Err-clause-moments : goal.returns-in-Err-clause-moments
@@ -53,3 +53,6 @@ returns-in-Ok-clause-sure g c = λ tells told enough.
       no_disk_fault = third.runs;
       no_line_fault = λ e. no_line_fault c.make.result c.make.ensures.status e;
     }
+
+pub returns-in-Ok-clause-kept : goal.returns-in-Ok-clause-kept
+returns-in-Ok-clause-kept g c = λ held. absurd (never_blank (g.T.Device.disk c.args.station.now).told held (rw c.in-Ok-true.field-0-test at c.in-Ok-true.ensures.blank))

@@ -2,6 +2,7 @@ use Rattle.std.proofs.Common.{◌∙◌, List, ℕ, refl, sym, ap}
 use Rattle.std.specs.Prelude.{Ok}
 use Rattle.dmn_desk.specs.declared.request.Request.TheVariants as requests
 use Rattle.dmn_desk.proofs.Commanding.{asked_as, leaves_as, rested, told_answers}
+use Rattle.dmn_desk.proofs.Marking.{marks_as, question_marks}
 use Rattle.dmn_desk.proofs.desk.Desk.answer.Goals as goal
 
 pub returns-in-Connect-clause-moments : goal.returns-in-Connect-clause-moments
@@ -33,3 +34,18 @@ returns-in-Tip-clause-moments g c = λ m stands. rested _ _ _ c.args.registry.no
 pub returns-in-Tip-clause-answers : goal.returns-in-Tip-clause-answers
 returns-in-Tip-clause-answers g c =
     told_answers c.args.request.now c.tell_or_memory.result c.args.self.now c.tell_or_memory.new.self c.args.registry.now c.branch-registry.result.now (g.D.Device.disk c.args.disk.now).told c.branch-registry.ensures c.tell_or_memory.ensures.tells c.tell_or_memory.ensures.stay
+
+pub returns-in-Connect-clause-mark : goal.returns-in-Connect-clause-mark
+returns-in-Connect-clause-mark g c = λ m stands. marks_as c.args.request.now (requests.Connect c.in-Connect.block _) _ m _ _ _ c.in-Connect.is (c.connect.ensures.mark m stands)
+
+pub returns-in-Disconnect-clause-mark : goal.returns-in-Disconnect-clause-mark
+returns-in-Disconnect-clause-mark g c = λ m stands. marks_as c.args.request.now (requests.Disconnect _) c.disconnect.result m _ _ _ c.in-Disconnect.is c.disconnect.ensures.newest
+
+pub returns-in-Pin-clause-mark : goal.returns-in-Pin-clause-mark
+returns-in-Pin-clause-mark g c = λ m stands. marks_as c.args.request.now (requests.Pin c.in-Pin.height) _ m _ _ _ c.in-Pin.is c.pin.ensures.newest
+
+pub returns-in-Release-clause-mark : goal.returns-in-Release-clause-mark
+returns-in-Release-clause-mark g c = λ m stands. marks_as c.args.request.now (requests.Release c.in-Release.pin) _ m _ _ _ c.in-Release.is c.release.ensures.newest
+
+pub returns-in-Tip-clause-mark : goal.returns-in-Tip-clause-mark
+returns-in-Tip-clause-mark g c = λ m stands. question_marks c.args.request.now _ m _ _ c.tell_or_memory.ensures.question

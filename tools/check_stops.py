@@ -2,10 +2,12 @@
 """Runs the built program in folders of its own, stops it, and looks at what is left: what no proof can say of real files and
 processes.
 
-    python3 tools/check_stops.py PROGRAM [--kills N] [--seed N] [--seconds N]
+    python3 tools/check_stops.py PROGRAM [--kills N] [--seed N] [--seconds N] [--long N]
 
 - A run of 'feed' is killed at a random moment, N times (40), and opened again each time: the registry has a front of the
   commands that were sent, and each one that was answered is among them. Some runs of 'init' are killed too.
+- With --long a registry of the profile 'small' takes N records (as many as 2,000), and is killed again and again until it
+  has, while its snapshots are written one over the other.
 - The file is not let grow: that is answered by code 4, and nothing that was answered is lost.
 - A journal that cannot be written ends the run with code 4, an empty folder with code 6, and nothing is sent.
 - Journals of unequal profiles are opened by their own.
@@ -28,7 +30,7 @@ import time
 sys.path.insert(0, os.path.join(os.path.dirname(os.path.abspath(__file__)), "cases"))
 
 from casefile import CODES, Case, Line  # noqa: E402 (found by the line above)
-from disk import PATHS, header_text  # noqa: E402
+from disk import OPEN, PATHS, header_text  # noqa: E402
 from wire import frame  # noqa: E402
 
 JOURNAL = PATHS[0]
@@ -53,14 +55,21 @@ class Plan:
     """A start record, commands with the answers to them, and what stands behind each number of them."""
 
     def __init__(self, generator, profile="small", count=COMMANDS):
+        self.begin(profile)
+        for _ in range(count):
+            self.add(generator)
+        self.collect()
+
+    def begin(self, profile):
         self.case = Case("stops", 1)
         self.line = 0
         self.registered = 0
         self.say("run init")
         self.say("record %s 2 01" % profile)
         self.say("run feed")
-        for _ in range(count):
-            self.add(generator)
+
+    def collect(self):
+        """What the words say, in bytes."""
         self.record = self.case.runs[0].input()
         run = self.case.runs[1]
         self.frames = [ask.text for ask in run.asks]
@@ -88,6 +97,27 @@ class Plan:
         if generator.random() < 0.1:
             items.append("ordinary paying 5 to bytes %s" % generator.randbytes(generator.randrange(1, 9_000)).hex())
         self.say("block %d with hash %s: %s" % (tip.height + 1, block_hash, ", ".join(items)))
+        self.say("= Ok height %d, hash %s" % (tip.height + 1, block_hash))
+
+
+class LongPlan(Plan):
+    """So many commands that a journal of the profile 'small' just holds them: short blocks, and as many disconnects, below the
+    heights at which commitments are due."""
+
+    HIGHEST = 13
+
+    def add(self, generator):
+        tip = self.case.tip()
+        floor = max(self.case.first - 1, self.case.top - 6)
+        if tip.height > floor and (tip.height == self.HIGHEST or generator.random() < 0.5):
+            before = self.case.states[-2]
+            self.say("disconnect %s" % tip.hash.hex())
+            self.say("= Ok height %d, hash %s" % (before.height, before.hash.hex()))
+            return
+        block_hash = generator.randbytes(32).hex()
+        is_new = self.registered < 20 and generator.random() < 0.05
+        self.registered += is_new
+        self.say("block %d with hash %s%s" % (tip.height + 1, block_hash, ": register %d" % self.registered if is_new else ""))
         self.say("= Ok height %d, hash %s" % (tip.height + 1, block_hash))
 
 
@@ -232,6 +262,37 @@ class Kills:
             raise Wrong("a new registry has commands")
 
 
+def newest_snapshot(program):
+    """The greatest sequence number of a snapshot whose gate is open; 0 where there is none."""
+    found = 0
+    for name in PATHS[1:]:
+        with open(os.path.join(program.folder, name), "rb") as file:
+            head = file.read(17)
+        if len(head) == 17 and head[:1] == OPEN:
+            found = max(found, int.from_bytes(head[9:], "little"))
+    return found
+
+
+def check_long(program, generator, count):
+    """One registry, whose run is killed again and again until it has taken all of its commands."""
+    plan = LongPlan(generator, "small", count)
+    program.empty()
+    program.wants(["init"], plan.record, b"", "Done")
+    begun, kills, done = time.monotonic(), 0, 0
+    while done < count:
+        seconds = 0.02 + generator.random() * 0.25
+        sent, code = program.kill(["feed"], b"".join(plan.frames[done:]), seconds)
+        if code not in (0, KILLED):
+            raise Wrong("'feed' ended with %d" % code)
+        least = answered(plan, done, sent)
+        done = program.recovered(plan, least)
+        if done > least + 1:
+            raise Wrong("%d commands were answered, and %d are there" % (least, done))
+        kills += code == KILLED
+    return "%d records, %d kills, the newest snapshot is number %d, in %d seconds" % (
+        count, kills, newest_snapshot(program), time.monotonic() - begun)
+
+
 def check_kills(program, generator, most, ends):
     kills, done = Kills(program, generator), 0
     while done < most and time.monotonic() < ends:
@@ -337,16 +398,20 @@ def main(words):
     parser.add_argument("--kills", type=int, default=40)
     parser.add_argument("--seed", type=int, default=1)
     parser.add_argument("--seconds", type=float, default=120)
+    parser.add_argument("--long", type=int, default=0, metavar="N", help="a registry of N records besides, killed again and again")
     told = parser.parse_args(words)
     if not os.path.isfile(told.program):
         sys.exit("check_stops: %s is not built" % told.program)
     ends = time.monotonic() + told.seconds
     checks = (check_folders, check_unwritable, check_limits,
               lambda program, generator, ends: check_kills(program, generator, told.kills, ends))
+    if told.long:
+        checks += (lambda program, generator, ends: check_long(program, generator, told.long),)
     with tempfile.TemporaryDirectory() as room:
         os.chmod(room, 0o755)
         path, folder = os.path.join(room, "program"), os.path.join(room, "files")
         shutil.copy(told.program, path)
+        os.chmod(path, 0o755)
         os.mkdir(folder)
         for check in checks:
             try:

@@ -21,7 +21,7 @@ import tempfile
 import textwrap
 
 from answers import NUMBERS, RULES, Shown, cut_answers
-from casefile import CODES, read_cases
+from casefile import CODES, FRAMED, read_cases
 from disk import PATHS
 from wire import dsha
 from words import Mistake
@@ -33,8 +33,6 @@ CRATE = os.path.join(TOP, "crates", "dmn_cases")
 # 65,536 headers.
 UNREACHED_RULES = {82, 83}
 UNREACHED_STATUSES = {"Memory", "Enough", "HeadersFull"}
-# The runs that answer frames.
-FRAMED = (["feed"], ["client"])
 # A file's text that is longer is told by its length and its hash.
 LONGEST_TEXT = 600
 
@@ -142,9 +140,14 @@ def composed_run(run):
     return [line.rstrip() for line in lines] + ["end %d %s" % (run.end_line, ending(run))]
 
 
+def made_runs(case):
+    """The runs of a case, and those of the fronts of their inputs, as often as they are made."""
+    return [front for run in case.runs for front in run.fronts()]
+
+
 def composed_case(case):
     lines = ["case %d %s" % (case.line, case.name)]
-    for run in case.runs:
+    for run in made_runs(case):
         lines += composed_run(run)
     return lines + ["done"]
 
@@ -263,14 +266,14 @@ def tried_case(name, case, command):
     """How many of a case's runs were made, and what is wrong with the first that goes wrong. A run whose calls fail is made
     by no command, one of 'serve' is made elsewhere, by callers over HTTP, and nor is one behind it made."""
     with tempfile.TemporaryDirectory() as folder:
-        for count, run in enumerate(case.runs):
+        for count, run in enumerate(made_runs(case)):
             if run.is_faulty() or run.serves():
                 return count, None
             done = made(run, command, folder)
             fault = tried("%s:%%d: %s: " % (name, case.name), run, done, folder)
             if fault:
                 return count + 1, fault
-    return len(case.runs), None
+    return len(made_runs(case)), None
 
 
 def try_all(command):
@@ -278,9 +281,9 @@ def try_all(command):
     count = wrong = left = 0
     for name, cases in all_cases():
         for case in cases:
-            made_runs, fault = tried_case(name, case, command)
-            count += made_runs
-            left += len(case.runs) - made_runs
+            tried_runs, fault = tried_case(name, case, command)
+            count += tried_runs
+            left += len(made_runs(case)) - tried_runs
             if fault:
                 wrong += 1
                 print(fault)

@@ -1,12 +1,13 @@
 """Files of cases: their lines, and the runs that these ask for."""
 
-from dataclasses import dataclass, field
+from dataclasses import dataclass, field, replace
 
-from answers import CONNECT, DIFF, DISCONNECT, LIST, PAGE, Wanted
+from answers import CONNECT, DIFF, DISCONNECT, LIST, NUMBERS, PAGE, Wanted
 from disk import NAMES, Disk, audit_text, tip_text
 from model import KEPT
 from over_http import reply_of_words, reply_to, request_text, text_of_words
 from requests import WITH_ENTRIES, Step, but, read_record, read_request
+from slots import slot_text
 from wire import HEAD, ZERO_HASH
 from words import Mistake, Words
 
@@ -20,6 +21,10 @@ RESERVED = ("pieces",)
 PICKS = ("Before", "After", "Fill")
 AUDIT = ("height", "rows", "banned", "root", "records")
 COMMANDS = (CONNECT, DISCONNECT)
+# Before a text, whose fronts then are those of as many callers.
+FRONTS = "each front of"
+# The runs that answer frames.
+FRAMED = (["feed"], ["client"])
 
 
 @dataclass
@@ -85,6 +90,9 @@ class Run:
     stop: int = None
     is_behind_opening: bool = False
     each: list = field(default_factory=list)
+    # the files before it, and whether it is also made with each front of its input
+    began: list = field(default_factory=list)
+    is_cut: bool = False
     stand: Stand = None
     asks: list = field(default_factory=list)
     callers: list = field(default_factory=list)
@@ -103,6 +111,30 @@ class Run:
 
     def is_faulty(self):
         return bool(self.fails) or self.stop is not None
+
+    def fronts(self):
+        """The run with each front of its input, which ends within a frame or behind one, and then with all of it."""
+        if not self.is_cut:
+            return [self]
+        if self.words not in FRAMED or self.each or self.is_faulty() or any(ask.kind is None for ask in self.asks):
+            raise Mistake("line %d: the input of this run is not cut" % self.line)
+        if None in self.began:
+            raise Mistake("line %d: what the files have before this run is not known" % self.line)
+        files = dict(enumerate(self.began))
+        return [self.front(size, files) for size in range(1, len(self.input()))] + [replace(self, files=files)]
+
+    def front(self, size, files):
+        """The run with so many bytes of its input: the frames that are whole are answered."""
+        whole, end = [], 0
+        for ask in self.asks:
+            if end + len(ask.text) > size:
+                break
+            whole.append(ask)
+            end += len(ask.text)
+        left = self.input()[end:size]
+        becomes = {} if any(ask.is_accepted() for ask in whole) else {file: (self.line, text) for file, text in files.items()}
+        rest = [Ask(self.line, "", None, left)] if left else []
+        return replace(self, files=files, asks=whole + rest, becomes=becomes, end="CutInput" if left else "Done")
 
     def serves(self):
         """Whether it is a run of 'serve', whose requests come from callers, one each."""
@@ -211,6 +243,7 @@ class Case:
     def begin_run(self, line, words):
         self.end_run()
         run = Run(line, words, self.told)
+        run.began = list(self.disk.texts)
         run.stand = self.stand(self.states[-1]) if self.states else None
         self.told = {}
         self.last = None
@@ -275,13 +308,23 @@ class Case:
             self.run(number).becomes[file] = (number, words.hex())
             return
         self.end_run()
-        text = words.hex() if words.takes("is") else self.disk.texts[file]
+        text = self.told_text(words) if words.takes("is") else self.disk.texts[file]
         if text is None:
             raise Mistake("what this file has is not known")
         while words.takes(",", "but"):
-            text = but(words, text)
+            text = self.but_gate(words, text) if words.takes("its", "gate", "is") else but(words, text)
         self.disk.hold(file, text)
         self.told[file] = text
+
+    def but_gate(self, words, text):
+        """'its gate is BYTES': the byte of the journal's closed gate, and what stands behind it."""
+        if self.disk.gate is None:
+            raise Mistake("where the journal's closed gate stands is not known")
+        return text[:self.disk.gate] + words.hex()
+
+    def told_text(self, words):
+        """'BYTES', or 'a snapshot' of the registry as it is."""
+        return slot_text(words, self) if words.takes("a", "snapshot") else words.hex()
 
     def take_stop(self, words, number):
         run = self.run(number)
@@ -290,6 +333,10 @@ class Case:
             return
         run.stop = words.number()
         run.is_behind_opening = words.takes("behind", "the", "opening")
+
+    def take_cut(self, words, number):
+        words.wants("each")
+        self.run(number).is_cut = True
 
     def take_fails(self, words, number):
         run = self.run(number)
@@ -331,9 +378,15 @@ class Case:
         return run
 
     def take_caller(self, line):
-        """'caller TEXT': a caller that sends this text."""
+        """'caller TEXT': a caller that sends this text; 'caller each front of TEXT': one for each of its fronts, which is sent
+        nothing."""
         self.last = None
-        self.served(line.number).callers.append(Caller(line.number, text_of_words(line.whole().partition(" ")[2])))
+        callers, words = self.served(line.number).callers, line.whole().partition(" ")[2]
+        if not words.startswith(FRONTS):
+            callers.append(Caller(line.number, text_of_words(words)))
+            return
+        text = text_of_words(words[len(FRONTS):])
+        callers += [Caller(line.number, text[:size], line.number, b"") for size in range(len(text))]
 
     def take_reply(self, line):
         """'reply nothing', 'reply STATUS JSON' or 'reply TEXT': what the last caller is sent."""
@@ -425,13 +478,19 @@ class Case:
         words = self.words(line, has_entries)
         words.wants("=")
         if self.last.steps:
-            words.wants("each", "Ok")
+            words.wants("each")
+            status = words.next()
             words.ends()
-            return [step.answer for step in self.last.steps]
+            return [self.step_answer(step, status) for step in self.last.steps]
         if words.takes("as", "before"):
             words.ends()
             return [self.answered_before(self.last.text)]
         return [Wanted(words, self.last.kind, self.last.drafted).frame()]
+
+    def step_answer(self, step, status):
+        if step.answer[:1] != bytes([NUMBERS.get(status, 255)]):
+            raise Mistake("'%s' is not answered %s" % (step.words, status))
+        return step.answer
 
     def answered_before(self, text):
         if text not in self.answers:
@@ -454,7 +513,7 @@ class Case:
 
 TEXTS = {"caller": Case.take_caller, "reply": Case.take_reply}
 LINES = {"run": Case.take_run, "start": Case.take_start, "file": Case.take_file, "stop": Case.take_stop,
-         "fails": Case.take_fails, "pick": Case.take_pick, "ends": Case.take_ends}
+         "cut": Case.take_cut, "fails": Case.take_fails, "pick": Case.take_pick, "ends": Case.take_ends}
 
 
 def take_lines(case, lines, needs_answers):

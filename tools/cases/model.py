@@ -102,6 +102,11 @@ def members(state, kind, size):
     return [row.hash for row in sorted(able, key=lambda row: (-score(row, mod), row.hash))[:size]]
 
 
+def pay_key(row):
+    """The less this is, the sooner a row is paid; of equal ones the one with the lower hash."""
+    return row.revived if row.revived > row.paid else row.paid or row.registered
+
+
 class Working:
     """A state that becomes the next one, transaction by transaction."""
 
@@ -198,5 +203,13 @@ class Working:
     def root(self):
         return list_root([row.entry() for row in self.rows.values()])
 
+    def mark(self):
+        """The one that is paid by the list before, where it is still there, was paid last at this height."""
+        able = [row for row in self.before.rows.values() if row.banned == 0]
+        paid = min(able, key=lambda row: (pay_key(row), row.hash), default=None)
+        if paid is not None and paid.hash in self.rows:
+            self.rows[paid.hash] = replace(self.rows[paid.hash], paid=self.height)
+
     def state(self, block_hash):
+        self.mark()
         return State(self.height, block_hash, self.rows, self.outputs, self.mined)

@@ -12,7 +12,7 @@ from words import Mistake, bytes_of
 WORDS = {200: "OK", 400: "Bad Request", 404: "Not Found", 405: "Method Not Allowed", 409: "Conflict", 410: "Gone",
          413: "Content Too Large", 503: "Service Unavailable", 507: "Insufficient Storage"}
 NUMBERS = {"BadRequest": 400, "NotHeld": 410, "NoSuch": 404, "BaseAbove": 409, "PinsFull": 409, "PinUnknown": 404, "Refused": 409,
-           "NotTip": 409, "AtStart": 409, "TooDeep": 409, "JournalFull": 507}
+           "NotTip": 409, "AtStart": 409, "TooDeep": 409, "JournalFull": 507, "Memory": 503}
 
 
 def number(text):

@@ -6,6 +6,7 @@ from answers import (APPLY, CONNECT, DIFF, DISCONNECT, HEADER, LIST, MEMBERS, PA
                      TIP)
 from blocks import Block
 from diffs import Handed, Header
+from light import Client
 from model import PROFILES, State
 from wire import HASH_SIZE, HEAD, frame, number, pay_of, pay_text, point_text
 from words import Mistake, Words, bytes_of
@@ -147,17 +148,31 @@ def headers(words, case):
         yield Step("header " + said, frame(HEADER, Header(Words(said, case), case).body()), frame(0, b""))
 
 
-REPEATED = {"blocks": (CONNECT, blocks), "disconnects": (DISCONNECT, disconnects), "headers": (HEADER, headers)}
+def fronts(words, case):
+    """'fronts of BASE BLOCK': each front of the diff between these blocks, which is none."""
+    words.wants("of")
+    handed = Handed(words, case)
+    whole = handed.diff.text()
+    for size in range(len(whole)):
+        yield Step("front of %d bytes" % size, frame(APPLY, whole[:size]), Client().apply(whole[:size]))
+
+
+REPEATED = {"blocks": (CONNECT, blocks), "disconnects": (DISCONNECT, disconnects), "headers": (HEADER, headers),
+            "fronts": (APPLY, fronts)}
 
 
 def but(words, body):
-    """'cut to N bytes', 'followed by HEX' or 'byte N is HEX': a body out of its form."""
+    """'cut to N bytes', 'followed by HEX', 'byte N is HEX', or 'at N HEX', which is as many bytes as these: a body out of its
+    form."""
     if words.takes("cut", "to"):
         size = words.number()
         words.wants("bytes")
         return body[:size]
     if words.takes("followed", "by"):
         return body + words.hex()
+    if words.takes("at"):
+        place, text = words.number(), words.hex()
+        return body[:place] + text + body[place + len(text):]
     words.wants("byte")
     place = words.number()
     words.wants("is")

@@ -1,0 +1,4 @@
+mod Fronts
+mod Fed
+mod Served
+mod Chains

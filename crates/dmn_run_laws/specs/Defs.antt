@@ -1,0 +1,5 @@
+-- What lasts over runs of the program that follow one another. A reader begins here; the parts are:
+--   Fronts  what an image between two machines has
+--   Runs    a run, and what of it is there in an image that a crash left, and at the end
+--   Chains  runs one behind the other
+-- What `feed`, `serve` and `init` promise of a run stands in their crates.

@@ -1,0 +1,4 @@
+pub mod Defs
+pub mod Fronts
+pub mod Runs
+pub mod Chains

@@ -1,0 +1,7 @@
+-- What follows of a machine for the snapshots that hold it, and for how much is told of it. A reader begins here; the parts are:
+--   Tells    what a snapshot tells of a machine, without what follows of the machine
+--   Formed   what of a state is in the form in which a snapshot is written
+--   Once     how many commitments of a type a block mines
+--   Same     what a snapshot has of commitments, beside what a machine has
+--   Quorums  how many quorums are told of a height, and how long their texts are
+-- That a snapshot holds a machine stands in dmn_branch (`Holds`).

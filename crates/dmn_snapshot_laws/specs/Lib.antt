@@ -1,0 +1,6 @@
+pub mod Defs
+pub mod Tells
+pub mod Formed
+pub mod Once
+pub mod Same
+pub mod Quorums

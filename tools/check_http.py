@@ -8,6 +8,7 @@
   http.client; in one piece, byte by byte, and two in one connection.
 - Each check of a request fails alone: its reply is the one of the table; with two that fail it is the first one's.
 - Callers that leave early are sent nothing, and the next one is served; one that is silent is given up.
+- The last caller sends more than is taken, and has its reply all the same.
 - N callers one after another (1,000).
 - The server is killed at a random moment, N times (10): each block that was answered is there at the next start.
 
@@ -42,6 +43,8 @@ LISTENS = "0A"
 LONGEST_HEAD = 8_192
 LONGEST_BODY = 16_777_216
 MOST_FIELDS = 32
+# So many bytes behind a request are more than a head's buffer takes.
+REST = 100_000
 # Syncs of files in memory are quick; what a disk keeps is not what is looked at here.
 MEMORY = "/dev/shm" if os.access("/dev/shm", os.W_OK) else None
 # A server that takes longer to answer, or to end, is a fault.
@@ -278,6 +281,14 @@ def check_slow(program, options):
     return "slow callers, and such as leave"
 
 
+def check_last(program, options):
+    """A connection that the program's end closes over bytes that nobody took would be reset."""
+    program.begin()
+    with Server(program, 1):
+        same("the last caller", by_socket(head("GET /tip") + bytes(REST)), TIP_REPLY)
+    return "a last caller with %d bytes behind its request" % REST
+
+
 def check_many(program, options):
     program.begin()
     begun = time.monotonic()
@@ -352,7 +363,7 @@ class Registry(Program):
         self.wants(["init"], RECORD, b"", "Done")
 
 
-CHECKS = (check_cases, check_texts, check_slow, check_many, check_kills)
+CHECKS = (check_cases, check_texts, check_slow, check_last, check_many, check_kills)
 
 
 def main(words):

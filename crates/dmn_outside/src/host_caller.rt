@@ -37,11 +37,16 @@ impl<R: Net> HostCallers<R> {
         }
     }
 
-    /// Leaves the caller that is served now, and waits for the next one.
-    pub fn next(&mut self, rt: &R) -> io::Result<()> {
+    /// Leaves the caller that is served now, where it is one of these.
+    pub fn leave(&mut self) {
         if let Caller::Connected(caller) = std::mem::replace(&mut self.caller, Caller::Nobody) {
             leave(caller);
         }
+    }
+
+    /// Leaves the caller that is served now, and waits for the next one.
+    pub fn next(&mut self, rt: &R) -> io::Result<()> {
+        self.leave();
         let listener = match self.listener.take() {
             Some(listener) => listener,
             None => rt.bind(SocketAddr::new(IpAddr::V4(Ipv4Addr::LOCALHOST), PORT))?,

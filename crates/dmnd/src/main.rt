@@ -23,5 +23,7 @@ fn main(rt: HostRuntime) -> ExitCode {
         return ExitCode::from(Status::Memory.code());
     };
     let mut station = HostStation::new(rt);
-    ExitCode::from(dmn_main(alloc, &words, &mut station).code())
+    let status = dmn_main(alloc, &words, &mut station);
+    station.leave();
+    ExitCode::from(status.code())
 }

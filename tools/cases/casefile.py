@@ -19,7 +19,10 @@ PLACED = ("NotJournal", "StartForm")
 # Words that later cases will need; until then no line begins with them.
 RESERVED = ("pieces",)
 PICKS = ("Before", "After", "Fill")
+# The lines of the runs that send text, each of which is a name and a value.
 AUDIT = ("height", "rows", "banned", "root", "records")
+LINED = {"audit": AUDIT, "make": AUDIT + ("tail", "pages")}
+HASHES = ("root", "pages")
 COMMANDS = (CONNECT, DISCONNECT)
 # Before a text, whose fronts then are those of as many callers.
 FRONTS = "each front of"
@@ -135,6 +138,14 @@ class Run:
         becomes = {} if any(ask.is_accepted() for ask in whole) else {file: (self.line, text) for file, text in files.items()}
         rest = [Ask(self.line, "", None, left)] if left else []
         return replace(self, files=files, asks=whole + rest, becomes=becomes, end="CutInput" if left else "Done")
+
+    def lines(self):
+        """The names of the lines that it sends; none of a run that answers frames or callers."""
+        return LINED.get(self.words[0]) if self.words else None
+
+    def leaves_unknown(self):
+        """Whether what it writes is not known: where calls fail, and in a run of 'make' that began."""
+        return self.is_faulty() or self.words[:1] == ["make"] and self.end not in ("Words", "AlreadyInit")
 
     def serves(self):
         """Whether it is a run of 'serve', whose requests come from callers, one each."""
@@ -260,7 +271,7 @@ class Case:
             self.begin(self.last.record)
             self.disk.begin(self.last.record.text)
             run.stand = self.stand(self.tip())
-        if run.is_faulty():
+        if run.leaves_unknown():
             self.disk.lose()
         for file, (_, text) in run.becomes.items():
             self.disk.find(file, text)
@@ -410,8 +421,8 @@ class Case:
 
     def answer(self, line):
         run = self.run(line.number)
-        if run.words == ["audit"]:
-            run.asks.append(self.audit(line))
+        if run.lines():
+            run.asks.append(self.lined(line, run.lines()))
             return
         if self.last is None or not run.asks or run.asks[-1].answer is not None:
             raise Mistake("an answer stands behind its request")
@@ -448,29 +459,29 @@ class Case:
             self.accept(self.runs[-1].asks[-count:])
             self.last = None
 
-    def audit(self, line):
-        """'height H, rows R, banned B, root HASH, records N', or 'right' for what the case's words say."""
+    def lined(self, line, names):
+        """'NAME VALUE, ..' for each of these lines; or, of an audit, 'right' for what the case's words say."""
         words = Words(line.whole(), self)
         words.wants("=")
-        run = self.runs[-1]
         if words.takes("nothing"):
             text = b""
         elif words.takes("bytes"):
             text = words.hex()
-        elif words.takes("right"):
+        elif names == AUDIT and words.takes("right"):
             text = audit_text(self.tip(), self.disk.records)
         else:
-            text = "".join(self.audit_line(words, name) for name in AUDIT).encode()
+            text = "".join(self.named_line(words, name) for name in names).encode()
         words.ends()
-        return Ask(line.number, "audit", None, b"", line.number, text)
+        return Ask(line.number, " ".join(self.runs[-1].words), None, b"", line.number, text)
 
-    def audit_line(self, words, name):
+    def named_line(self, words, name):
         if name != AUDIT[0]:
             words.wants(",")
         words.wants(name)
-        if name != "root":
+        if name not in HASHES:
             return "%s %d\n" % (name, words.number())
-        return "root %s\n" % (self.tip().root() if words.takes("right") else words.hash()).hex()
+        is_right = name == "root" and words.takes("right")
+        return "%s %s\n" % (name, (self.tip().root() if is_right else words.hash()).hex())
 
     def wanted(self, line):
         """The answers to what was asked last. Below that to a list stand its entries."""

@@ -25,13 +25,14 @@ use Rattle.dmn_audit.specs.Text.{audit_text}
 use Rattle.dmn_light.specs.Laws as client_laws
 use Rattle.dmn_light.specs.Outcome as clients
 use Rattle.dmn_light.specs.Room as client_room
+use Rattle.dmn_make.specs.Outcome as makes
 use Rattle.dmn_serve.specs.Outcome as serves
 use Rattle.dmn_serve.specs.Passing.{IsPassing}
 use Rattle.dmn_serve.specs.Room as serve_room
 use Rattle.dmn_status.specs.declared.status.Status.{Status}
 use Rattle.dmn_status.specs.declared.status.Status.TheVariants as statuses
 use Rattle.dmn_commands.specs.declared.command.Command.{Command}
-use Rattle.dmn_commands.specs.declared.command.Command.TheVariants.{Audit, Client, Feed, Init, Serve}
+use Rattle.dmn_commands.specs.declared.command.Command.TheVariants.{Audit, Client, Feed, Init, Make, Serve}
 
 -- a run over a station: whether it tells its contents, their moments, and its room; how many bytes more could be sent when it
 -- began; when it began and ended; the disk and the line before and behind it
@@ -138,12 +139,25 @@ pub record RunsServe (most : ℕ) (status : Status) (run : Run) : Type 0 where
   -- or the run ends with Memory
   pub sure : run.tells ≡ true → run.tells_room ≡ true → (m : Machine) → IsKnown (IsOwn m) run.before.told → serve_room.Suffices (at_rest m) most run.room run.before.room run.old.talk.later → serve_room.EndsSurely status run.old run.new run.before run.behind
 
+-- `make`: a registry is made, the stream that anybody can make again is run through it, and a summary is sent.
+pub record RunsMake (count : ℕ) (status : Status) (run : Run) : Type 0 where
+  pub ends : makes.OfMake status
+  -- the text of the run was sent, and the journal of its commands is on the disk; or nothing was sent
+  pub outcome : run.tells ≡ true → makes.Makes status count run.before run.behind run.old.talk run.new.talk
+  -- where file 0 is not blank nothing is written
+  pub kept : Reading (λ all. IsBlank all.zeroth → ⊥) run.before.told → OnlyReads run.before run.behind
+  -- where each image was blank, a crash at any moment leaves a blank one, or one that is own with a front of the run's commands
+  pub moments : run.tells ≡ true → IsBlankDisk run.before.told → LeavesOnly run.started run.before run.behind (makes.IsOfRun count)
+  -- on a blank disk the end is Done or Memory
+  pub complete : run.tells ≡ true → IfReads run.before.told (λ all. IsBlank all.zeroth) → IsCalm run → makes.EndsWell status
+
 abbrev pub Runs : Command → Status → Run → Type 0
 Runs Init status run = RunsInit status run
 Runs Feed status run = RunsFeed status run
 Runs Audit status run = RunsAudit status run
 Runs Client status run = RunsClient status run
 Runs (Serve callers) status run = RunsServe callers status run
+Runs (Make count) status run = RunsMake count status run
 
 -- What holds of the line besides its bytes: no count falls, time doesn't, and each byte that is sent has a moment of the run. But
 -- for `serve`, the count of callers' faults is as before, and only the caller that was there was sent something.

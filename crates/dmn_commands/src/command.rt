@@ -9,6 +9,9 @@ use crate::count::count_of;
 /// As many callers as one run serves.
 const MOST_CALLERS: u32 = 1_000_000;
 
+/// As many masternodes as one run makes.
+const MOST_MADE: u32 = 5_000;
+
 /// What the words ask for.
 #[derive(Clone, Copy, Debug, PartialEq, Eq)]
 pub enum Command {
@@ -22,6 +25,8 @@ pub enum Command {
     Client,
     /// Serves so many callers over HTTP.
     Serve { callers: u32 },
+    /// Makes a registry of so many masternodes, and sends a summary.
+    Make { count: u32 },
 }
 
 // What one word alone asks for.
@@ -48,6 +53,9 @@ fn command_with(word: &str, count: &str) -> Option<Command>
     if word == "serve" {
         let callers = count_of(count, MOST_CALLERS)?;
         Some(Command::Serve { callers })
+    } else if word == "make" {
+        let count = count_of(count, MOST_MADE)?;
+        Some(Command::Make { count })
     } else {
         None
     }

@@ -12,6 +12,7 @@ use dmn_audit::audit;
 use dmn_feed::feed;
 use dmn_init::init;
 use dmn_light::client;
+use dmn_make::make;
 use dmn_outside::Station;
 use dmn_serve::serve;
 use dmn_status::Status;
@@ -53,5 +54,6 @@ pub fn dmn_main<T: Station>(alloc: Global, words: &[String], station: &mut T) ->
         Some(Command::Audit) => audit(alloc, station),
         Some(Command::Client) => client(alloc, station),
         Some(Command::Serve { callers }) => serve(alloc, callers, station),
+        Some(Command::Make { count }) => make(alloc, count, station),
     }
 }

@@ -67,3 +67,12 @@ returns-in-Some-Serve-clause-runs g c = λ command wanted. runs_asked _ (command
 pub returns-in-Some-Init-clause-later : goal.returns-in-Some-Init-clause-later
 returns-in-Some-Init-clause-later g c = λ command wanted.
     passes_asked g.T.Device.tells_moments (g.T.Device.time c.args.station.now) (g.T.Device.time c.init.new.station) (g.T.Device.line c.args.station.now) (g.T.Device.line c.init.new.station) _ commands.Init command (sym (rw c.in-Some-Init.field-0-is at c.in-Some-Init.ensures)) wanted (later_quiet c.init.ensures.quiet)
+
+pub returns-in-Some-Make-clause-runs : goal.returns-in-Some-Make-clause-runs
+returns-in-Some-Make-clause-runs g c = λ command wanted. runs_asked _ (commands.Make c.in-Some-Make.count) command _ _ (sym (rw c.in-Some-Make.field-0-is at c.in-Some-Make.ensures)) wanted (record {
+  ends = c.make.ensures.status;
+  outcome = c.make.ensures.outcome;
+  kept = c.make.ensures.kept;
+  moments = c.make.ensures.moments;
+  complete = λ tells blank calm. c.make.ensures.complete tells blank calm.disk calm.line;
+})

@@ -1,0 +1,10 @@
+mod Marking
+mod Asked
+mod Joining
+mod Added
+mod Stepping
+mod Taken
+mod Beginning
+mod Ending
+mod Heights
+mod Whole

@@ -1,0 +1,7 @@
+-- A run that anybody can make again, as the contracts see it. A reader begins here; the parts are:
+--   Steps    what is done, one step after another
+--   Going    the machine and the pages behind each step
+--   Text     the seven lines that are sent
+--   Outcome  what was sent and is on the disk, by the status, and what a crash leaves at any moment
+--   Asking, Running, Starting   what private parts do
+-- The blocks are those of dmn_generator, the machine that of dmn_registry, the answers those of dmn_desk.

@@ -13,6 +13,8 @@ are then drawn by the seed (1).
   release are never answered Memory in 'feed'.
 - 'init' makes the registry, or ends with code 3 and leaves the files as they were; 'audit' tells its five lines, or ends
   with code 3 and tells nothing. The others end with code 3 only where they have answered nothing.
+- Behind two blocks of 250 masternodes each a third one finds more nodes than it leaves, and compacts first: of this run the
+  allocations behind the opening fail, those of the compaction among them.
 
 It wants a C compiler: see tools/failing.py. Without one it says so, and does nothing. Once the seconds (120) are over no run is
 begun, and it says how many were. 'serve' listens on port 9996 of 127.0.0.1."""
@@ -26,22 +28,27 @@ import sys
 import tempfile
 import time
 
-sys.path.insert(0, os.path.dirname(os.path.abspath(__file__)))
+HERE = os.path.dirname(os.path.abspath(__file__))
+sys.path.insert(0, HERE)
+sys.path.insert(0, os.path.join(HERE, "..", "bench"))
 
 import check_http  # noqa: E402 (found by the line above)
 from check_stops import TIP, Wrong  # noqa: E402
 from failing import Failing, is_there  # noqa: E402
-from answers import DISCONNECT, RELEASE, SHOW, cut_answers  # noqa: E402 (found by check_stops)
+from answers import CONNECT, DISCONNECT, RELEASE, SHOW, cut_answers  # noqa: E402 (found by check_stops)
 from answers import TIP as TIP_KIND  # noqa: E402
-from casefile import CODES, read_cases  # noqa: E402
+from casefile import CODES, Ask, Run, read_cases  # noqa: E402
 from disk import PATHS  # noqa: E402
 from over_http import reply_to  # noqa: E402
+from stream import Stream, start_record  # noqa: E402 (found above)
 from wire import HEAD, frame  # noqa: E402
 
 CASES = os.path.join(check_http.CASES, "hostile", "memory.case")
 MEMORY = frame(1, b"")
 NEVER_MEMORY = (DISCONNECT, TIP_KIND, RELEASE)
 LONGEST_RUN = 60
+# As many masternodes as a block registers.
+BLOCK = 250
 
 
 # ---- runs
@@ -195,20 +202,19 @@ class Sole:
 
 # ---- all
 
-def allocations(count, most, generator):
-    """The numbers of those that fail."""
-    if most is None or count <= most:
-        return range(1, count + 1)
-    return sorted(generator.sample(range(1, count + 1), most))
+def allocations(first, count, most, generator):
+    """The numbers of those that fail, from the first one on."""
+    every = range(first, count + 1)
+    return every if most is None or len(every) <= most else sorted(generator.sample(every, most))
 
 
-def try_run(program, run, files, told, ends):
+def try_run(program, run, files, told, ends, first=1):
     """A run with each of its allocations failing; what is said of it, and the files that it leaves where none does."""
     whole, count = program.run(run.words, files, run.input(), [caller.text for caller in run.callers])
     trial = Sole(run, program, files) if run.words[0] in ("init", "audit") else Asked(run)
     if isinstance(trial, Asked):
         _, _, count = trial.make(program, files, tuple(range(len(trial.texts))))
-    chosen, tried, refused = allocations(count, told.most, random.Random(told.seed)), 0, 0
+    chosen, tried, refused = allocations(first, count, told.most, random.Random(told.seed)), 0, 0
     for at in chosen:
         if time.monotonic() > ends:
             break
@@ -228,6 +234,17 @@ def try_case(program, case, told, ends):
         print("memory: %s: %s" % (case.name, said), flush=True)
 
 
+def try_compaction(program, told, ends):
+    """The block that compacts is asked for twice: where the first one is answered Memory, the second one adds it."""
+    blocks = list(Stream(2 * BLOCK).connects(3))
+    record = program.run(["init"], [b""] * len(PATHS), start_record())[0].files
+    files = program.run(["feed"], record, b"".join(blocks[:2]))[0].files
+    _, opening = program.run(["feed"], files, TIP)
+    asks = [Ask(0, "the third block", CONNECT, blocks[2])] * 2
+    said, _ = try_run(program, Run(0, ["feed"], asks=asks), files, told, ends, opening + 1)
+    print("memory: a compaction: %s" % said, flush=True)
+
+
 def main(words):
     parser = argparse.ArgumentParser(description=__doc__, formatter_class=argparse.RawDescriptionHelpFormatter)
     parser.add_argument("program")
@@ -244,11 +261,12 @@ def main(words):
     ends = time.monotonic() + told.seconds
     with Failing() as failing:
         program = Program(os.path.abspath(told.program), failing)
-        for case in cases:
+        trials = [(case.name, lambda case=case: try_case(program, case, told, ends)) for case in cases]
+        for name, trial in trials + [("a compaction", lambda: try_compaction(program, told, ends))]:
             try:
-                try_case(program, case, told, ends)
+                trial()
             except (Wrong, OSError, subprocess.SubprocessError) as wrong:
-                print("memory: WRONG in '%s': %s" % (case.name, wrong))
+                print("memory: WRONG in '%s': %s" % (name, wrong))
                 return 1
     return 0
 

@@ -4,9 +4,9 @@
     python3 bench/bench.py crates/dmnd/out/dmnd [--quick] [--only WORD ..] [--folder FOLDER] [--into FILE]
 
 Prints a table. With --into FILE it puts it between the two marks of this file, as in docs/PERFORMANCE.md. --quick takes about a
-minute and leaves out what takes long. --only names parts: blocks, questions, opening, callers, memory, make. The registries stand
-in a folder of their own, below FOLDER where it is told, else below the system's for temporary files: an fsync costs what it
-costs there.
+minute and leaves out what takes long. --only names parts: blocks, questions, opening, snapshots, callers, memory, make. The
+registries stand in a folder of their own, below FOLDER where it is told, else below the system's for temporary files: an fsync costs
+what it costs there.
 
 What 'serve' does is measured on port 9996, which must be free. Bytes read are counted by strace, where it is there."""
 
@@ -29,7 +29,8 @@ from stream import FIRST, PER_BLOCK, Stream, start_record
 
 sys.path.insert(0, os.path.join(os.path.dirname(os.path.abspath(__file__)), "..", "tools", "cases"))
 
-from model import CONFIRM, KEPT  # noqa: E402 (found by the line above)
+from disk import EVERY  # noqa: E402 (found by the line above)
+from model import CONFIRM, KEPT, PROFILES  # noqa: E402
 from wire import HEAD, ZERO_HASH, frame, number  # noqa: E402
 
 TIP, LIST, ROW, PAYEES, MEMBERS, QUORUMS, DIFF, PIN, PAGE, RELEASE = range(3, 13)
@@ -46,8 +47,8 @@ PIECES_OF_SCORE = 4
 PIECES_OF_REGISTRATION = 11
 MARKS = ("<!-- figures -->", "<!-- end of figures -->")
 HELD = KEPT["main"] + 1
-# The program's code where it has no such command.
-NO_SUCH_WORDS = 2
+# A block has a snapshot written before it where so many records stand behind the newest one, or behind the header.
+DUE = EVERY[PROFILES["main"]]
 
 
 class Wrong(Exception):
@@ -491,15 +492,20 @@ def audit(bench, folder):
     return int(told.split()[-1]), time.perf_counter() - begun
 
 
-def say_opening(bench, folder, masternodes):
-    records, whole = audit(bench, folder)
-    behind = records - newest_mark(folder)[1]
-    came, worked = opening(bench, folder, 3)
+def try_opening(bench, folder, what, times):
+    """An opening beside SHA-256 of what it reads."""
+    came, worked = opening(bench, folder, times)
     begun = time.perf_counter()
     subprocess.run(["sha256sum"] + [os.path.join(folder, name) for name in FILES[1:]], stdout=subprocess.DEVNULL, check=True)
     plain = time.perf_counter() - begun + least_read(folder) / bench.hash_rate
-    bench.say("opening, %d masternodes, %d records, %d of them behind the newest snapshot" % (masternodes, records, behind),
-              took(came), took(plain), "SHA-256 of all that is read, that of the snapshots by sha256sum", worked, plain)
+    bench.say(what, took(came), took(plain), "SHA-256 of all that is read, that of the snapshots by sha256sum", worked, plain)
+
+
+def say_opening(bench, folder, masternodes):
+    records, whole = audit(bench, folder)
+    behind = records - newest_mark(folder)[1]
+    try_opening(bench, folder, "opening, %d masternodes, %d records, %d of them behind the newest snapshot" % (
+        masternodes, records, behind), 3)
     bench.say("replay of all %d records ('audit')" % records, took(whole))
     read, how = journal_bytes(bench, folder)
     size = os.path.getsize(os.path.join(folder, FILES[0]))
@@ -515,6 +521,21 @@ def measure_opening(bench):
         run.ask(list(stream.connects(records - len(stream.heights))))
         run.end()
         say_opening(bench, folder, masternodes)
+
+
+def measure_snapshots(bench):
+    """Openings with one block behind the newest snapshot: of one that begins at the height before all registrations, so that these
+    are among what changes from one height to the next, and of one that has as many heights as are held, all masternodes in each."""
+    masternodes = 5_000
+    stream, folder = Stream(masternodes), bench.registry("snapshots")
+    for records in (DUE + 1, 2 * DUE + 1):
+        run = bench.feed(folder)
+        run.ask(list(stream.connects(records - len(stream.heights))))
+        run.end()
+        before = newest_mark(folder)[1]
+        if before != records - 1:
+            raise Wrong("the newest snapshot stands behind %d of %d records" % (before, records))
+        try_opening(bench, folder, "opening, %d masternodes, snapshot of %d heights" % (masternodes, min(HELD, records)), 5)
 
 
 # ---- callers
@@ -620,8 +641,6 @@ def measure_make(bench):
                               stdout=subprocess.PIPE, check=True).stdout.split()
         seconds = time.perf_counter() - begun
         code, peak, worked = int(told[0]), int(told[1]) * 1024, float(told[2])
-        if code == NO_SUCH_WORDS:
-            return
         if code:
             raise Wrong("'make %d' ended with %d" % (masternodes, code))
         changing = 2 * ((masternodes + PER_BLOCK - 1) // PER_BLOCK)
@@ -676,8 +695,8 @@ def put_into(path, text):
         file.write("%s%s\n\n%s\n%s%s" % (before, first, text, last, behind))
 
 
-PARTS = {"blocks": measure_blocks, "questions": measure_blocks, "opening": measure_opening, "callers": measure_callers,
-         "memory": measure_memory, "make": measure_make}
+PARTS = {"blocks": measure_blocks, "questions": measure_blocks, "opening": measure_opening, "snapshots": measure_snapshots,
+         "callers": measure_callers, "memory": measure_memory, "make": measure_make}
 
 
 def main(words):

@@ -38,7 +38,7 @@ types_next quorums i item params lt is some =
 
 -- ---- a base is held
 
-both : (a b : Bool) → (a && b) ≡ true → (a ≡ true) × (b ≡ true)
+pub both : (a b : Bool) → (a && b) ≡ true → (a ≡ true) × (b ≡ true)
 both true true is = (refl, refl)
 both true false is = cc
 both false b is = cc

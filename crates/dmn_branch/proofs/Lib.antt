@@ -24,6 +24,7 @@ mod Numbers
 mod Mining
 mod Punishing
 mod Drawing
+mod Unasked
 mod Blocks
 mod Moving
 mod Taking

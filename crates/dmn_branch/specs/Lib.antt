@@ -1,6 +1,7 @@
 pub mod Defs
 pub mod Events
 pub mod Quorums
+pub mod Drawn
 pub mod Step
 pub mod Replay
 pub mod Pins

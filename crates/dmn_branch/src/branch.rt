@@ -1,6 +1,6 @@
 //! A branch: the lists of the heights that are held, one block more, and one less.
 
-ghost use Rattle.std.specs.Prelude.{◌≡◌, ℕ, ◌*◌, ◌+◌, ◌-◌, ◌≤◌, ◌&&◌, ◌%◌, ◌^◌, ◌==◌, [], Some, IfOk, IfErr, IfSome, MatchBool, OnOk, OnErr, find, is_some, length, max, nat_le, slice_get, ◌<◌, Ok, Err, None, drop, vec_capacity, vec_len};
+ghost use Rattle.std.specs.Prelude.{◌≡◌, ℕ, ◌*◌, ◌+◌, ◌-◌, ◌≤◌, ◌&&◌, ◌%◌, ◌^◌, ◌==◌, [], Some, IfOk, IfErr, IfSome, MatchBool, OnOk, OnErr, find, is_some, length, map, max, nat_le, slice_get, ◌<◌, Ok, Err, None, drop, vec_capacity, vec_len};
 ghost use Rattle.std.specs.List.{AllByRecursion};
 ghost use Rattle.std.specs.Option.{option_copied, option_map};
 ghost use Rattle.std.specs.Str.{bytes_eq};
@@ -27,6 +27,7 @@ ghost use Rattle.dmn_branch.specs.Holds.{Holds};
 ghost use Rattle.dmn_branch.specs.Lean.{IsLean};
 ghost use Rattle.dmn_branch.specs.Machine as machine;
 ghost use Rattle.dmn_branch.specs.Machine.{MachineState};
+ghost use Rattle.dmn_branch.specs.Drawn.{IsDrawnFor, drawn_by};
 ghost use Rattle.dmn_branch.specs.Parts.{StandsIn, IsSettled, IsTreeOf, all_formed_in, formed_in};
 ghost use Rattle.dmn_branch.specs.Pins.{free_number, no_pins, number_after, pin_of};
 ghost use Rattle.dmn_quorums.specs.Duty.{types_of};
@@ -39,13 +40,14 @@ use crate::asked::{payees_of, row_of};
 use crate::change::{RowChange, change};
 use crate::coinbase::coinbase_part;
 use crate::compaction::{Compaction, is_due, versions};
+use crate::drawn::Drawn;
 use crate::fault::{DisconnectRefusal, PinFault, PrepareFault};
 use crate::from_data::{fits_heights, held_list, mined_of};
 use crate::held::{HeightVersion, Held, HeldList, Prepared};
 use crate::listing::Listing;
 use crate::origin::origin;
 use crate::pins::{Pin, PinList};
-use crate::quorums::{inside, members_of};
+use crate::quorums::{inside, members_of, undrawn};
 use crate::setting::Setting;
 use crate::step::advance;
 use crate::tip::Tip;
@@ -486,7 +488,7 @@ impl Branch {
     {
         let front = self.front();
         let coinbase = check_shape(alloc, block, &front.hash, front.height)?;
-        let formings = self.formings(alloc, coinbase.height)?;
+        let formings = self.formings(alloc, coinbase.height, block)?;
         let part = coinbase_part(alloc, block)?;
         if self.held.reserve().is_err() {
             return Err(PrepareFault::Memory);
@@ -530,32 +532,39 @@ impl Branch {
         if height == 0 || front.height != height - 1 {
             return Ok(Vec::new(alloc));
         }
-        self.formings_of(alloc, height, &self.profile.quorums)
+        self.formings_of(alloc, height, &self.profile.quorums, &Drawn::All)
     }
 
-    // The quorum of each type at the height behind the tip's.
-    fn formings(&self, alloc: Global, height: u32) -> Result<Vec<Forming>, Memory>
+    // The quorum of each type at the height behind the tip's, for a block there: with the members that it asks for.
+    fn formings(
+        &self,
+        alloc: Global,
+        height: u32,
+        block: &BlockFrame,
+    ) -> Result<Vec<Forming>, Memory>
         requires { height ≡ low_kept self.now + length self.now.lists }
-        ensures { IfOk result (λ formings. formings.items ≡ all_formed_in self.now height self.now.profile.quorums) }
+        ensures { IfOk result (λ formings. IsDrawnFor block.now.txs (all_formed_in self.now height self.now.profile.quorums) formings.items) }
     {
-        self.formings_of(alloc, height, &self.profile.quorums)
+        let drawn = Drawn::for_block(alloc, block.txs.as_slice())?;
+        self.formings_of(alloc, height, &self.profile.quorums, &drawn)
     }
 
-    // The same of some types.
+    // The quorum of each of these types there, with the members of some.
     fn formings_of(
         &self,
         alloc: Global,
         height: u32,
         quorums: &[Option<QuorumParams>],
+        drawn: &Drawn,
     ) -> Result<Vec<Forming>, Memory>
         requires next { height ≡ low_kept self.now + length self.now.lists }
         requires bases { AllByRecursion (HoldsBase self.now.profile) (types_of quorums.now) }
-        ensures { IfOk result (λ formings. formings.items ≡ all_formed_in self.now height quorums.now) }
+        ensures { IfOk result (λ formings. formings.items ≡ map (drawn_by drawn.now) (all_formed_in self.now height quorums.now)) }
     {
         let mut formings = Vec::new(alloc);
         for quorum in quorums {
             if let Some(params) = quorum {
-                let forming = self.forming(alloc, height, params)?;
+                let forming = self.forming(alloc, height, params, drawn)?;
                 formings.push(forming).map_err(|_| Memory)?;
             }
         }
@@ -563,16 +572,25 @@ impl Branch {
     }
 
     // The quorum of a type. The base of each whose commitment may be mined is held.
-    fn forming(&self, alloc: Global, height: u32, params: &QuorumParams) -> Result<Forming, Memory>
+    fn forming(
+        &self,
+        alloc: Global,
+        height: u32,
+        params: &QuorumParams,
+        drawn: &Drawn,
+    ) -> Result<Forming, Memory>
         requires next { height ≡ low_kept self.now + length self.now.lists }
         requires base { HoldsBase self.now.profile params.now }
-        ensures { IfOk result (λ forming. forming ≡ formed_in self.now height params.now) }
+        ensures { IfOk result (λ forming. forming ≡ drawn_by drawn.now (formed_in self.now height params.now)) }
     {
         let done = self.mined.is_done(params, height);
         if !in_window(params, self.first, height) {
             return Ok(Forming::outside(alloc, params, done));
         }
         let base = self.held_at(base_of(params, height));
+        if !drawn.has(params.kind) {
+            return Ok(undrawn(alloc, base, params, done));
+        }
         inside(alloc, &self.indexes, base, params, done)
     }
 

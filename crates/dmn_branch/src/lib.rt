@@ -8,6 +8,7 @@ mod coinbase;
 mod commitments;
 mod compaction;
 mod confirm;
+mod drawn;
 mod fault;
 mod from_data;
 mod held;

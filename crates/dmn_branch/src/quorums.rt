@@ -1,10 +1,12 @@
 //! The quorums of a height, by the version of their base block.
 
-ghost use Rattle.std.specs.Prelude.{◌≡◌, ◌<◌, ◌^◌, IfOk, length, slice_get};
+ghost use Rattle.std.specs.Prelude.{◌≡◌, ◌<◌, ◌^◌, IfOk, List, length, slice_get};
 ghost use Rattle.std.specs.Option.{option_copied};
 ghost use Rattle.dmn_indexes.specs.Version.{IsWhole, rows_in};
 ghost use Rattle.dmn_quorums.specs.Forming as spec;
 ghost use Rattle.dmn_quorums.specs.Score.{members_of, modifier_of};
+ghost use Rattle.dmn_rows.specs.declared.row.MnRow.{MnRow};
+ghost use Rattle.dmn_branch.specs.Drawn.{undrawn};
 
 use crate::held::Held;
 use dmn_bytes::{Hash256, Memory};
@@ -78,4 +80,12 @@ pub(crate) fn inside(
     let members = seats(alloc, indexes, base, params, done)?;
     let digest = members_key(&indexes.view(&base.version, &base.version), &members);
     Ok(Forming::inside(params, done, &base.hash, members, &digest))
+}
+
+/// The same of one whose members nobody asks for.
+pub(crate) fn undrawn(alloc: Global, base: &Held, params: &QuorumParams, done: bool) -> Forming
+    ensures { (rows : List MnRow) → result ≡ undrawn (spec.inside params.now done base.now.hash rows) }
+{
+    let nobody = Hash256([0; 32]);
+    Forming::inside(params, done, &base.hash, Vec::new(alloc), &nobody)
 }

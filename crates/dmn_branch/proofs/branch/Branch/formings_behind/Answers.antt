@@ -6,6 +6,7 @@ use Rattle.dmn_branch.specs.Parts.{IsSettled, all_formed_in}
 use Rattle.dmn_branch.specs.Stands.{Keeping, StandsFor, kept_at, lists_in, low_kept, low_of}
 use Rattle.dmn_branch.proofs.Asking.{if_ok}
 use Rattle.dmn_branch.proofs.Drawing.{all_formed_are}
+use Rattle.dmn_branch.proofs.Unasked.{all_drawn}
 use Rattle.dmn_branch.proofs.Mining.{settled_at}
 use Rattle.dmn_branch.proofs.Standing.{tip_stands}
 use Rattle.dmn_branch.proofs.branch.Branch.formings_behind.Goals as goal
@@ -31,5 +32,5 @@ returns c = λ m stands next.
     let rests = ap (λ (n : ℕ). undone n c.self.inside.mined) (sym at.height) ∙ settled in
     let behind : c.args.height ≡ last.height + 1 = next ∙ ap (λ (n : ℕ). n + 1) (sym at.height) in
     if_ok c.formings_of.result
-    (λ formings is. is ∙ ap (λ (b : Keeping). all_formed_in b c.args.height c.self.inside.profile.quorums) (sym c.self.view_is)
+    (λ formings is. is ∙ all_drawn _ ∙ ap (λ (b : Keeping). all_formed_in b c.args.height c.self.inside.profile.quorums) (sym c.self.view_is)
     ∙ all_formed_are _ m c.args.height before c.self.invariant.0 (behind ∙ height) rests next) c.formings_of.ensures

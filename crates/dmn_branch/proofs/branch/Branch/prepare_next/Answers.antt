@@ -5,10 +5,10 @@ use Rattle.std.proofs.lemmas.Result.{err_from_is_err_and}
 use Rattle.dmn_block.specs.Shape.{broken_rule}
 use Rattle.dmn_indexes.specs.Version as versions
 use Rattle.dmn_quorums.specs.Duty.{undone}
-use Rattle.dmn_quorums.specs.Forming.{Formed}
 use Rattle.dmn_rows.specs.declared.profile.Profile.{Profile}
 use Rattle.dmn_held.specs.declared.coinbase.CoinbasePart.{CoinbasePart}
 use Rattle.dmn_branch.specs.declared.held.Held.{Held}
+use Rattle.dmn_branch.specs.Drawn.{IsDrawnFor, drawn_by}
 use Rattle.dmn_branch.specs.Machine as machine
 use Rattle.dmn_branch.specs.Machine.{MachineState, tip}
 use Rattle.dmn_branch.specs.Parts.{Given, IsSettled, all_formed_in}
@@ -17,6 +17,7 @@ use Rattle.dmn_branch.specs.Step.{events_from}
 use Rattle.dmn_branch.proofs.Active.{settled_to}
 use Rattle.dmn_branch.proofs.Connecting.{tells_step, next_is}
 use Rattle.dmn_branch.proofs.Drawing.{all_formed_are}
+use Rattle.dmn_branch.proofs.Unasked.{follows_drawn, tells_drawn}
 use Rattle.dmn_branch.proofs.Holding.{held_kept, keeps_on, lists_length, ok_from}
 use Rattle.dmn_branch.proofs.Leaving.{left_stands}
 use Rattle.dmn_branch.proofs.Mining.{settled_at, undone_mined}
@@ -121,11 +122,17 @@ returns-clause-refused c = λ m stands fresh.
     let at = tip_stands _ m (kept_at ix last) before (subst (λ (b : Keeping). slice_get b.lists (length b.lists - 1) ≡ Some (kept_at b.indexes last)) (sym c.self.view_is) c.front-front.ensures.list) in
     let height = c.front-front.ensures.height ∙ ap (λ (b : Keeping). low_kept b + length b.lists) (sym c.self.view_is) in
     let settled = settled_at (low_of c.self.inside.profile c.self.inside.first c.self.inside.top) (length (lists_in ix (low_of c.self.inside.profile c.self.inside.first c.self.inside.top) c.self.inside.held.held)) last.height c.self.inside.mined height (subst IsSettled (sym c.self.view_is) c.requires.settled) in
-    let given : c.new-setting.result.formed ≡ machine.formed m =
-    ap (λ (g : Given). g.formed) c.new-setting.ensures ∙ c.deref.ensures.value ∙ c.in_ok-formings.ensures ∙ ap (λ (b : Keeping). all_formed_in b c.in_ok-coinbase.coinbase.height b.profile.quorums) (sym c.self.view_is)
-    ∙ all_formed_are _ m c.in_ok-coinbase.coinbase.height before c.self.invariant.0 (c.in_ok-coinbase.ensures.height ∙ height) (ap (λ (n : ℕ). undone n c.self.inside.mined) (sym at.height) ∙ settled) (c.in_ok-coinbase.ensures.height ∙ ap (λ (n : ℕ). n + 1) at.height) in
+    let some = c.in_ok-formings.ensures in
+    let given : IsDrawnFor c.args.block.now.txs (machine.formed m) c.new-setting.result.formed = record {
+      drawn = some.drawn;
+      asked = some.asked;
+      is =
+          ap (λ (g : Given). g.formed) c.new-setting.ensures ∙ c.deref.ensures.value ∙ some.is ∙ ap (map (drawn_by some.drawn)) (ap (λ (b : Keeping). all_formed_in b c.in_ok-coinbase.coinbase.height b.profile.quorums) (sym c.self.view_is)
+          ∙ all_formed_are _ m c.in_ok-coinbase.coinbase.height before c.self.invariant.0 (c.in_ok-coinbase.ensures.height ∙ height) (ap (λ (n : ℕ). undone n c.self.inside.mined) (sym at.height) ∙ settled) (c.in_ok-coinbase.ensures.height ∙ ap (λ (n : ℕ). n + 1) at.height));
+    } in
     let profile : c.new-setting.result.profile ≡ machine.profile m = ap (λ (g : Given). g.profile) c.new-setting.ensures ∙ before.profile in
-    tells_step m c.args.block.now c.new-setting.result.profile c.new-setting.result.formed _ profile given fresh (c.in-Err.ensures.refused (tip m) at)
+    tells_step m c.args.block.now c.new-setting.result.profile (machine.formed m) _ profile refl fresh
+    (tells_drawn c.new-setting.result.profile (machine.formed m) c.new-setting.result.formed (tip m) c.args.block.now given _ (c.in-Err.ensures.refused (tip m) at))
 
 -- the height of what was prepared, and how it reads
 height : (c : goal.After-drop-formings-in-Ok) → c.in-Ok.stepped.next.height ≡ low_of c.self.inside.profile c.self.inside.first c.self.inside.top + length (lists_in c.advance.new.indexes (low_of c.self.inside.profile c.self.inside.first c.self.inside.top) c.reserve.new.self.held)
@@ -147,11 +154,17 @@ returns-in-Ok-clause-next c = λ m stands fresh.
     let height = c.front-front.ensures.height ∙ ap (λ (b : Keeping). low_kept b + length b.lists) (sym c.self.view_is) in
     let settled = settled_at (low_of c.self.inside.profile c.self.inside.first c.self.inside.top) (length (lists_in ix (low_of c.self.inside.profile c.self.inside.first c.self.inside.top) c.self.inside.held.held)) last.height mined height (subst IsSettled (sym c.self.view_is) c.requires.settled) in
     let rests = ap (λ (n : ℕ). undone n mined) (sym at.height) ∙ settled in
-    let given : c.new-setting.result.formed ≡ machine.formed m =
-    ap (λ (g : Given). g.formed) c.new-setting.ensures ∙ c.deref.ensures.value ∙ c.in_ok-formings.ensures ∙ ap (λ (b : Keeping). all_formed_in b c.in_ok-coinbase.coinbase.height b.profile.quorums) (sym c.self.view_is)
-    ∙ all_formed_are _ m c.in_ok-coinbase.coinbase.height before c.self.invariant.0 (c.in_ok-coinbase.ensures.height ∙ height) rests (c.in_ok-coinbase.ensures.height ∙ ap (λ (n : ℕ). n + 1) at.height) in
+    let some = c.in_ok-formings.ensures in
+    let given : IsDrawnFor c.args.block.now.txs (machine.formed m) c.new-setting.result.formed = record {
+      drawn = some.drawn;
+      asked = some.asked;
+      is =
+          ap (λ (g : Given). g.formed) c.new-setting.ensures ∙ c.deref.ensures.value ∙ some.is ∙ ap (map (drawn_by some.drawn)) (ap (λ (b : Keeping). all_formed_in b c.in_ok-coinbase.coinbase.height b.profile.quorums) (sym c.self.view_is)
+          ∙ all_formed_are _ m c.in_ok-coinbase.coinbase.height before c.self.invariant.0 (c.in_ok-coinbase.ensures.height ∙ height) rests (c.in_ok-coinbase.ensures.height ∙ ap (λ (n : ℕ). n + 1) at.height));
+    } in
     let profile : c.new-setting.result.profile ≡ machine.profile m = ap (λ (g : Given). g.profile) c.new-setting.ensures ∙ before.profile in
-    let next = next_is m c.args.block.now c.new-setting.result.profile c.new-setting.result.formed c.in-Ok.stepped.events (kept_at c.advance.new.indexes c.in-Ok.stepped.next) c.in_ok-part.part mined c.advance.new.mined profile given fresh (c.in-Ok.ensures.next (tip m) at) c.in_ok-part.ensures
+    let next = next_is m c.args.block.now c.new-setting.result.profile (machine.formed m) c.in-Ok.stepped.events (kept_at c.advance.new.indexes c.in-Ok.stepped.next) c.in_ok-part.part mined c.advance.new.mined profile refl fresh
+    (follows_drawn c.new-setting.result.profile (machine.formed m) c.new-setting.result.formed (tip m) c.args.block.now given _ _ _ _ (c.in-Ok.ensures.next (tip m) at)) c.in_ok-part.ensures
     (settled_to (tip m).height mined rests) (tip_gives _ m c.self.invariant.0 before) in
     subst (λ (k : Kept). IsNext (record { kept = k; coinbase = c.with_coinbase.result.coinbase; mined = c.advance.new.mined }) m c.args.block.now) (made c)
     (subst (λ (o : Option CoinbasePart). IsNext (record { kept = kept_at c.advance.new.indexes c.in-Ok.stepped.next; coinbase = o; mined = c.advance.new.mined }) m c.args.block.now) (ap (λ (h : Held). h.coinbase) (sym c.with_coinbase.ensures)) next)
@@ -164,11 +177,17 @@ returns-in-Ok-clause-events c = λ m stands.
     let at = tip_stands _ m (kept_at ix last) before (subst (λ (b : Keeping). slice_get b.lists (length b.lists - 1) ≡ Some (kept_at b.indexes last)) (sym c.self.view_is) c.front-front.ensures.list) in
     let height = c.front-front.ensures.height ∙ ap (λ (b : Keeping). low_kept b + length b.lists) (sym c.self.view_is) in
     let settled = settled_at (low_of c.self.inside.profile c.self.inside.first c.self.inside.top) (length (lists_in ix (low_of c.self.inside.profile c.self.inside.first c.self.inside.top) c.self.inside.held.held)) last.height c.self.inside.mined height (subst IsSettled (sym c.self.view_is) c.requires.settled) in
-    let given : c.new-setting.result.formed ≡ machine.formed m =
-    ap (λ (g : Given). g.formed) c.new-setting.ensures ∙ c.deref.ensures.value ∙ c.in_ok-formings.ensures ∙ ap (λ (b : Keeping). all_formed_in b c.in_ok-coinbase.coinbase.height b.profile.quorums) (sym c.self.view_is)
-    ∙ all_formed_are _ m c.in_ok-coinbase.coinbase.height before c.self.invariant.0 (c.in_ok-coinbase.ensures.height ∙ height) (ap (λ (n : ℕ). undone n c.self.inside.mined) (sym at.height) ∙ settled) (c.in_ok-coinbase.ensures.height ∙ ap (λ (n : ℕ). n + 1) at.height) in
+    let some = c.in_ok-formings.ensures in
+    let given : IsDrawnFor c.args.block.now.txs (machine.formed m) c.new-setting.result.formed = record {
+      drawn = some.drawn;
+      asked = some.asked;
+      is =
+          ap (λ (g : Given). g.formed) c.new-setting.ensures ∙ c.deref.ensures.value ∙ some.is ∙ ap (map (drawn_by some.drawn)) (ap (λ (b : Keeping). all_formed_in b c.in_ok-coinbase.coinbase.height b.profile.quorums) (sym c.self.view_is)
+          ∙ all_formed_are _ m c.in_ok-coinbase.coinbase.height before c.self.invariant.0 (c.in_ok-coinbase.ensures.height ∙ height) (ap (λ (n : ℕ). undone n c.self.inside.mined) (sym at.height) ∙ settled) (c.in_ok-coinbase.ensures.height ∙ ap (λ (n : ℕ). n + 1) at.height));
+    } in
     let profile : c.new-setting.result.profile ≡ machine.profile m = ap (λ (g : Given). g.profile) c.new-setting.ensures ∙ before.profile in
-    (c.in-Ok.ensures.next (tip m) at).counted ∙ ap (λ (p : Profile). events_from p c.new-setting.result.formed (tip m) c.args.block.now) profile ∙ ap (λ (f : List Formed). events_from (machine.profile m) f (tip m) c.args.block.now) given
+    (follows_drawn c.new-setting.result.profile (machine.formed m) c.new-setting.result.formed (tip m) c.args.block.now given _ _ _ _ (c.in-Ok.ensures.next (tip m) at)).counted
+    ∙ ap (λ (p : Profile). events_from p (machine.formed m) (tip m) c.args.block.now) profile
 
 pub returns-in-Ok-clause-ready : goal.returns-in-Ok-clause-ready
 returns-in-Ok-clause-ready c = record {

@@ -26,6 +26,7 @@ use Rattle.dmn_light.specs.Laws as client_laws
 use Rattle.dmn_light.specs.Outcome as clients
 use Rattle.dmn_light.specs.Room as client_room
 use Rattle.dmn_make.specs.Outcome as makes
+use Rattle.dmn_make.specs.Room as make_room
 use Rattle.dmn_serve.specs.Outcome as serves
 use Rattle.dmn_serve.specs.Passing.{IsPassing}
 use Rattle.dmn_serve.specs.Room as serve_room
@@ -150,6 +151,9 @@ pub record RunsMake (count : ℕ) (status : Status) (run : Run) : Type 0 where
   pub moments : run.tells ≡ true → IsBlankDisk run.before.told → LeavesOnly run.started run.before run.behind (makes.IsOfRun count)
   -- on a blank disk the end is Done or Memory
   pub complete : run.tells ≡ true → IfReads run.before.told (λ all. IsBlank all.zeroth) → IsCalm run → makes.EndsWell status
+  -- where there is room for the text, and before each step for the journal with what it asks for and for a snapshot, no count of
+  -- faults rises, and on a blank disk the end is Done or Memory
+  pub sure : run.tells ≡ true → run.tells_room ≡ true → make_room.Suffices count run.room run.before.room → make_room.EndsSurely status run.before run.behind run.old run.new
 
 abbrev pub Runs : Command → Status → Run → Type 0
 Runs Init status run = RunsInit status run

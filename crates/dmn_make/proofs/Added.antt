@@ -17,19 +17,24 @@ use Rattle.dmn_desk.specs.declared.request.Request.TheVariants as requests
 use Rattle.dmn_desk.specs.Kinds.{kind_of}
 use Rattle.dmn_desk.specs.Requests.{request_of}
 use Rattle.dmn_frames.specs.declared.limits.TheConstants.{LONGEST_BODY}
+use Rattle.dmn_journal.specs.Sure.{NeverFails}
 use Rattle.dmn_outside.specs.Disk.{DiskView}
+use Rattle.dmn_outside.specs.Failing.{KeepsDisk}
 use Rattle.dmn_office.specs.declared.office.Office.{Office}
 use Rattle.dmn_quorums.specs.Forming.{Formed}
 use Rattle.dmn_registry.specs.Machine as registries
-use Rattle.dmn_registry.specs.Machine.{Denial, Machine, by_rules, full, state_of}
+use Rattle.dmn_registry.specs.Machine.{Denial, Machine, by_rules, connecting, full, state_of}
+use Rattle.dmn_registry.specs.Snapshots.{SnapshotsFit}
 use Rattle.dmn_make.specs.Asking.{Does, Fails, Goes, Stands}
 use Rattle.dmn_make.specs.Going.{added, formed_for, place_of, right_root, settled, with_block, with_root}
+use Rattle.dmn_make.specs.Room.{HasPlace, HasPlaceForBlock}
 use Rattle.dmn_generator.specs.Blocks.{body_of}
 use Rattle.dmn_generator.specs.Masternodes.{no_hash}
 use Rattle.dmn_generator.specs.declared.blocks.Place.{Place}
 use Rattle.dmn_make.specs.declared.fault.MakeFault.{MakeFault}
 use Rattle.dmn_make.specs.declared.fault.MakeFault.TheVariants as faults
 use Rattle.dmn_make.specs.declared.step.Chain.{Chain}
+use Rattle.dmn_make.proofs.Fitting.{never_then}
 use Rattle.dmn_make.proofs.Joining.{fails_on, goes_on}
 
 -- ---- what is known of quorums
@@ -112,7 +117,7 @@ does_first (faults.NotJournal place) body t before now old new does = does
 
 -- the first request was answered by the right root
 module _ (body : Hash256 → List ℕ) (t later : ℕ) (before mid : DiskView) (old between : Office) (le : t ≤ later) (answer : Answer) (answers : (m : Machine) → Stands old m before.told → answer ≡ (added (body no_hash) m).0)
-    (first : (m : Machine) → Stands old m before.told → Goes t before mid m (added (body no_hash) m).1 between) (now : DiskView) (new : Office) (root : Hash256) (some : right_root answer ≡ Some root) where
+    (first : (m : Machine) → Stands old m before.told → Goes t before mid m (added (body no_hash) m).1 between) (root : Hash256) (some : right_root answer ≡ Some root) where
   told_root : (m : Machine) → Stands old m before.told → right_root (added (body no_hash) m).0 ≡ Some root
   told_root m stands = ap right_root (sym (answers m stands)) ∙ some
 
@@ -122,20 +127,28 @@ module _ (body : Hash256 → List ℕ) (t later : ℕ) (before mid : DiskView) (
   still_stands : (m : Machine) → Stands old m before.told → Stands between m mid.told
   still_stands m stands = let goes = still m stands in record { at = goes.on.stands; mark = goes.mark }
 
-  pub second_goes : ((m : Machine) → Stands between m mid.told → Goes later mid now m (added (body root) m).1 new) → (m : Machine) → Stands old m before.told → Goes t before now m (with_root body m) new
-  second_goes second m stands =
-      subst (λ (n : Machine). Goes t before now m n new) (added_second body m root (told_root m stands))
-      (goes_on t later before mid now m m (added (body root) m).1 between new le (still m stands) (second m (still_stands m stands)))
+  -- where the disk was kept, the second one has its place
+  pub second_never : (T : Type 0) (r : Result T MakeFault) (now : DiskView) (m : Machine) → Stands old m before.told → HasPlaceForBlock body m before.room → SnapshotsFit m before.room → KeepsDisk before mid
+      → ((k : Machine) → Stands between k mid.told → HasPlace k (Some (connecting (body root))) mid.room → SnapshotsFit k mid.room → NeverFails r faults.DiskFault mid now) → NeverFails r faults.DiskFault before now
+  second_never T r now m stands place fits kept second =
+      never_then r faults.DiskFault before mid now kept
+      (second m (still_stands m stands) (subst (λ (n : ℕ). HasPlace m (Some (connecting (body root))) n) (sym kept.room) (place.right root (told_root m stands))) (subst (λ (n : ℕ). SnapshotsFit m n) (sym kept.room) fits))
 
-  second_fails : ((m : Machine) → Stands between m mid.told → Fails later mid now m (added (body root) m).1) → (m : Machine) → Stands old m before.told → Fails t before now m (with_root body m)
-  second_fails second m stands =
-      subst (λ (n : Machine). Fails t before now m n) (added_second body m root (told_root m stands))
-      (fails_on t later before mid now m m (added (body root) m).1 between le refl (still m stands) (second m (still_stands m stands)))
+  module _ (now : DiskView) (new : Office) where
+    pub second_goes : ((m : Machine) → Stands between m mid.told → Goes later mid now m (added (body root) m).1 new) → (m : Machine) → Stands old m before.told → Goes t before now m (with_root body m) new
+    second_goes second m stands =
+        subst (λ (n : Machine). Goes t before now m n new) (added_second body m root (told_root m stands))
+        (goes_on t later before mid now m m (added (body root) m).1 between new le (still m stands) (second m (still_stands m stands)))
 
-  pub does_second : (fault : MakeFault) → Does {T = Answer} (Err fault) (λ m. (added (body root) m).1) later mid now between new → Does {T = Unit {0}} (Err fault) (with_root body) t before now old new
-  does_second faults.Memory does = second_fails does
-  does_second faults.DiskFault does = second_fails does
-  does_second (faults.NotJournal place) does = does
+    second_fails : ((m : Machine) → Stands between m mid.told → Fails later mid now m (added (body root) m).1) → (m : Machine) → Stands old m before.told → Fails t before now m (with_root body m)
+    second_fails second m stands =
+        subst (λ (n : Machine). Fails t before now m n) (added_second body m root (told_root m stands))
+        (fails_on t later before mid now m m (added (body root) m).1 between le refl (still m stands) (second m (still_stands m stands)))
+
+    pub does_second : (fault : MakeFault) → Does {T = Answer} (Err fault) (λ m. (added (body root) m).1) later mid now between new → Does {T = Unit {0}} (Err fault) (with_root body) t before now old new
+    does_second faults.Memory does = second_fails does
+    does_second faults.DiskFault does = second_fails does
+    does_second (faults.NotJournal place) does = does
 
 -- ---- the block of a height
 

@@ -1,6 +1,7 @@
 mod Marking
 mod Asked
 mod Joining
+mod Fitting
 mod Added
 mod Stepping
 mod Taken

@@ -8,15 +8,20 @@ use Rattle.dmn_branch.specs.declared.tip.Tip.{Tip}
 use Rattle.dmn_desk.specs.Ask.{ask}
 use Rattle.dmn_desk.specs.declared.answer.Answer.{Answer}
 use Rattle.dmn_desk.specs.declared.request.Request.TheVariants as requests
+use Rattle.dmn_desk.specs.Asked.{entry_by}
+use Rattle.dmn_journal.specs.Sure.{NeverFails}
 use Rattle.dmn_office.specs.declared.office.Office.{Office}
 use Rattle.dmn_outside.specs.Crashes.{LeavesOnly}
 use Rattle.dmn_outside.specs.Disk.{AreOver, DiskView}
+use Rattle.dmn_outside.specs.Failing.{KeepsDisk}
 use Rattle.dmn_registry.proofs.Between.{leads_self, run_on, unmoved}
 use Rattle.dmn_registry.specs.Machine.{Machine, state_of}
 use Rattle.dmn_registry.specs.Own.{IsBetween}
+use Rattle.dmn_make.proofs.Fitting.{never_then}
 use Rattle.dmn_make.proofs.Joining.{goes_on}
 use Rattle.dmn_make.specs.Asking.{Does, Fails, Goes, Stands}
 use Rattle.dmn_make.specs.Going.{Going, after, after_all, page_text, taking_back, telling, with_block}
+use Rattle.dmn_make.specs.Room.{HasPlace, HasRoomFor, HasRoomForAll}
 use Rattle.dmn_make.specs.Running.{HasStopped, HasTaken, IsAt, TakesStep, TakesSteps}
 use Rattle.dmn_make.specs.declared.fault.MakeFault.{MakeFault}
 use Rattle.dmn_make.specs.declared.fault.MakeFault.TheVariants as faults
@@ -46,6 +51,9 @@ tell_is count from g = refl
 -- the tip's hash is that of the last block
 pub back_same : (tip : Tip) (count : ℕ) (g : Going) → tip ≡ told (state_of g.machine) → (ask g.machine (requests.Disconnect tip.hash)).1 ≡ (after count TakeBack g).machine
 back_same tip count g is = ap (λ (k : Tip). (ask g.machine (requests.Disconnect k.hash)).1) is ∙ ap (λ (h : Going). h.machine) (sym (back_is count g))
+
+pub place_back : (tip : Tip) (m : Machine) (room : ℕ) → tip ≡ told (state_of m) → HasPlace m (entry_by (taking_back m)) room → HasPlace m (entry_by (requests.Disconnect tip.hash)) room
+place_back tip m room is place = subst (λ (k : Tip). HasPlace m (entry_by (requests.Disconnect k.hash)) room) (sym is) place
 
 -- a page is told, and nothing is changed
 told_same : (m : Machine) (from : ℕ) → (ask m (telling from)).1 ≡ m
@@ -143,3 +151,13 @@ module _ (t later : ℕ) (before mid now : DiskView) (count n : ℕ) (same : n �
   next_fails faults.Memory takes = stops takes
   next_fails faults.DiskFault takes = stops takes
   next_fails (faults.NotJournal place) takes = takes
+
+  -- where there is room for all steps there is for the next
+  pub next_never : (T : Type 0) (r : Result T MakeFault) (g : Going) → IsAt first g before.told → HasRoomForAll count steps g before.room → KeepsDisk before mid
+      → ((h : Going) → IsAt old h mid.told → HasRoomFor n (get_or steps i d) h.machine mid.room → NeverFails r faults.DiskFault mid now) → NeverFails r faults.DiskFault before now
+  next_never T r g at enough kept takes =
+      let h = after_all count (take i steps) g in
+      let step = get_or steps i d in
+      let room : HasRoomFor count step h.machine before.room = enough (take i steps) step (drop (suc i) steps) (split_at steps i d lt) in
+      never_then r faults.DiskFault before mid now kept
+      (takes h (still_at t before mid g h old (so_far g at)) (subst (λ (k : ℕ). HasRoomFor k step h.machine mid.room) (sym same) (subst (λ (b : ℕ). HasRoomFor count step h.machine b) (sym kept.room) room)))

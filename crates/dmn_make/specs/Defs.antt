@@ -3,5 +3,6 @@
 --   Going    the machine and the pages behind each step
 --   Text     the seven lines that are sent
 --   Outcome  what was sent and is on the disk, by the status, and what a crash leaves at any moment
+--   Room     over a station that tells how much it has room for: what is enough, and that no call fails then
 --   Asking, Running, Starting   what private parts do
 -- The blocks are those of dmn_generator, the machine that of dmn_registry, the answers those of dmn_desk.

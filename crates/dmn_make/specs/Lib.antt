@@ -6,3 +6,4 @@ pub mod Outcome
 pub mod Asking
 pub mod Running
 pub mod Starting
+pub mod Room

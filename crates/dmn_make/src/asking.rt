@@ -1,11 +1,16 @@
 //! What a run asks of its office.
 
-ghost use Rattle.std.specs.Prelude.{◌≡◌, ◌≤◌, false, true, IsErrOf, OnOk};
+ghost use Rattle.std.specs.Prelude.{◌≡◌, ◌≤◌, Some, false, true, IsErrOf, OnOk};
+ghost use Rattle.dmn_journal.specs.Sure.{NeverFails};
 ghost use Rattle.dmn_outside.specs.Counts.{Rose};
 ghost use Rattle.dmn_desk.specs.Ask.{ask};
+ghost use Rattle.dmn_desk.specs.Asked.{entry_by};
 ghost use Rattle.dmn_desk.specs.Requests.{IsRequest};
-ghost use Rattle.dmn_make.specs.Asking.{Answers, Does, is_memory};
+ghost use Rattle.dmn_registry.specs.Machine.{Machine, connecting};
+ghost use Rattle.dmn_registry.specs.Snapshots.{SnapshotsFit};
+ghost use Rattle.dmn_make.specs.Asking.{Answers, Does, Stands, is_memory};
 ghost use Rattle.dmn_make.specs.Going.{added};
+ghost use Rattle.dmn_make.specs.Room.{HasPlace};
 
 use crate::fault::MakeFault;
 use dmn_desk::{
@@ -34,9 +39,11 @@ pub fn ask<D: Disk>(
     ensures answers { D.tells ≡ true → Answers result (λ m. (ask m request.now).0) office.old (D.disk disk.old).told }
     ensures usable { OnOk result (office.new.registry.spent ≡ false) }
     ensures line { D.line disk.new ≡ D.line disk.old }
+    ensures room { D.room disk.new ≡ D.room disk.old }
     ensures time { D.time disk.old ≤ D.time disk.new }
     ensures later { (D.disk disk.old).faults ≤ (D.disk disk.new).faults }
     ensures fault { IsErrOf result MakeFault.DiskFault → Rose (D.disk disk.old).faults (D.disk disk.new).faults }
+    ensures sure { D.tells_room ≡ true → (m : Machine) → Stands office.old m (D.disk disk.old).told → HasPlace m (entry_by request.now) (D.disk disk.old).room → SnapshotsFit m (D.disk disk.old).room → NeverFails result MakeFault.DiskFault (D.disk disk.old) (D.disk disk.new) }
 {
     match office.answer(alloc, disk, request) {
         Err(DiskFault) => Err(MakeFault::DiskFault),
@@ -62,9 +69,11 @@ pub fn add_body<D: Disk>(
     ensures answers { D.tells ≡ true → Answers result (λ m. (added body.now m).0) office.old (D.disk disk.old).told }
     ensures usable { OnOk result (office.new.registry.spent ≡ false) }
     ensures line { D.line disk.new ≡ D.line disk.old }
+    ensures room { D.room disk.new ≡ D.room disk.old }
     ensures time { D.time disk.old ≤ D.time disk.new }
     ensures later { (D.disk disk.old).faults ≤ (D.disk disk.new).faults }
     ensures fault { IsErrOf result MakeFault.DiskFault → Rose (D.disk disk.old).faults (D.disk disk.new).faults }
+    ensures sure { D.tells_room ≡ true → (m : Machine) → Stands office.old m (D.disk disk.old).told → HasPlace m (Some (connecting body.now)) (D.disk disk.old).room → SnapshotsFit m (D.disk disk.old).room → NeverFails result MakeFault.DiskFault (D.disk disk.old) (D.disk disk.new) }
 {
     if body.len() > LONGEST_BODY as usize {
         return Ok(Answer::Short(ShortAnswer::BadRequest { at: 1 }));

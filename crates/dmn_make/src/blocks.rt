@@ -1,14 +1,18 @@
 //! The blocks of a run, each behind the tip.
 
-ghost use Rattle.std.specs.Prelude.{◌≡◌, ◌^◌, ◌≤◌, false, true, IfOk, IsErrOf, OnOk};
+ghost use Rattle.std.specs.Prelude.{◌≡◌, ◌^◌, ◌≤◌, Some, false, true, IfOk, IsErrOf, OnOk};
 ghost use Rattle.dmn_generator.specs.Blocks.{body_of};
 ghost use Rattle.dmn_generator.specs.declared.blocks.TheConstants.{FIRST};
+ghost use Rattle.dmn_journal.specs.Sure.{NeverFails};
 ghost use Rattle.dmn_outside.specs.Counts.{Rose};
 ghost use Rattle.dmn_outside.specs.Disk.{Told};
-ghost use Rattle.dmn_registry.specs.Machine.{Machine};
+ghost use Rattle.dmn_registry.specs.Machine.{Machine, connecting};
 ghost use Rattle.dmn_registry.specs.Own.{StandsFor};
+ghost use Rattle.dmn_registry.specs.Snapshots.{SnapshotsFit};
 ghost use Rattle.dmn_make.specs.Asking.{Answers, Does, Stands};
 ghost use Rattle.dmn_make.specs.Going.{added, formed_for, place_of, right_root, with_block, with_root};
+ghost use Rattle.dmn_make.specs.Room.{HasPlace, HasPlaceForBlock, HasRoomFor};
+ghost use Rattle.dmn_make.specs.declared.step.Step.TheVariants.{Add};
 
 use crate::asking::add_body;
 use crate::fault::MakeFault;
@@ -85,9 +89,11 @@ fn add_with<D: Disk>(
     ensures answers { D.tells ≡ true → Answers result (λ m. (added (body_of draft.now.count draft.now.place draft.now.formings.items root.now) m).0) office.old (D.disk disk.old).told }
     ensures usable { OnOk result (office.new.registry.spent ≡ false) }
     ensures line { D.line disk.new ≡ D.line disk.old }
+    ensures room { D.room disk.new ≡ D.room disk.old }
     ensures time { D.time disk.old ≤ D.time disk.new }
     ensures later { (D.disk disk.old).faults ≤ (D.disk disk.new).faults }
     ensures fault { IsErrOf result MakeFault.DiskFault → Rose (D.disk disk.old).faults (D.disk disk.new).faults }
+    ensures sure { D.tells_room ≡ true → (m : Machine) → Stands office.old m (D.disk disk.old).told → HasPlace m (Some (connecting (body_of draft.now.count draft.now.place draft.now.formings.items root.now))) (D.disk disk.old).room → SnapshotsFit m (D.disk disk.old).room → NeverFails result MakeFault.DiskFault (D.disk disk.old) (D.disk disk.new) }
 {
     let body = block_body(alloc, draft.count, &draft.place, &draft.formings, root)?;
     add_body(alloc, disk, office, body.as_slice())
@@ -106,15 +112,20 @@ fn add_draft<D: Disk>(
     ensures does { D.tells ≡ true → Does result (with_root (body_of draft.now.count draft.now.place draft.now.formings.items)) (D.time disk.old) (D.disk disk.old) (D.disk disk.new) office.old office.new }
     ensures usable { OnOk result (office.new.registry.spent ≡ false) }
     ensures line { D.line disk.new ≡ D.line disk.old }
+    ensures room { D.room disk.new ≡ D.room disk.old }
     ensures time { D.time disk.old ≤ D.time disk.new }
     ensures later { (D.disk disk.old).faults ≤ (D.disk disk.new).faults }
     ensures fault { IsErrOf result MakeFault.DiskFault → Rose (D.disk disk.old).faults (D.disk disk.new).faults }
+    ensures sure { D.tells ≡ true → D.tells_room ≡ true → (m : Machine) → Stands office.old m (D.disk disk.old).told → HasPlaceForBlock (body_of draft.now.count draft.now.place draft.now.formings.items) m (D.disk disk.old).room → SnapshotsFit m (D.disk disk.old).room → NeverFails result MakeFault.DiskFault (D.disk disk.old) (D.disk disk.new) }
 {
     let answer = add_with(alloc, disk, office, draft, &Hash256([0; 32]))?;
-    if let Some(root) = right_root(&answer) {
-        add_with(alloc, disk, office, draft, &root)?;
+    match right_root(&answer) {
+        None => Ok(()),
+        Some(root) => {
+            add_with(alloc, disk, office, draft, &root)?;
+            Ok(())
+        }
     }
-    Ok(())
 }
 
 /// Adds the block of a height. One that is refused is passed over.
@@ -132,9 +143,11 @@ pub fn add_block<D: Disk>(
     ensures does { D.tells ≡ true → Does result (with_block count chain height) (D.time disk.old) (D.disk disk.old) (D.disk disk.new) office.old office.new }
     ensures usable { OnOk result (office.new.registry.spent ≡ false) }
     ensures line { D.line disk.new ≡ D.line disk.old }
+    ensures room { D.room disk.new ≡ D.room disk.old }
     ensures time { D.time disk.old ≤ D.time disk.new }
     ensures later { (D.disk disk.old).faults ≤ (D.disk disk.new).faults }
     ensures fault { IsErrOf result MakeFault.DiskFault → Rose (D.disk disk.old).faults (D.disk disk.new).faults }
+    ensures sure { D.tells ≡ true → D.tells_room ≡ true → (m : Machine) → Stands office.old m (D.disk disk.old).told → HasRoomFor count (Add chain height) m (D.disk disk.old).room → NeverFails result MakeFault.DiskFault (D.disk disk.old) (D.disk disk.new) }
 {
     let draft = Draft {
         count,

@@ -2,11 +2,13 @@
 
 ghost use Rattle.std.specs.Prelude.{◌≡◌, ◌++◌, ◌≤◌, false, true, IfOk, IsErrOf, OnOk};
 ghost use Rattle.std.specs.List.{All, flat_map};
+ghost use Rattle.dmn_journal.specs.Sure.{NeverFails};
 ghost use Rattle.dmn_outside.specs.Counts.{Rose};
 ghost use Rattle.dmn_sml.specs.Entry.{entry};
 ghost use Rattle.dmn_make.specs.Asking.{Does};
-ghost use Rattle.dmn_make.specs.Going.{page_text};
-ghost use Rattle.dmn_make.specs.Running.{TakesStep, TakesSteps};
+ghost use Rattle.dmn_make.specs.Going.{Going, page_text};
+ghost use Rattle.dmn_make.specs.Room.{HasRoomFor, HasRoomForAll};
+ghost use Rattle.dmn_make.specs.Running.{IsAt, TakesStep, TakesSteps};
 ghost use Rattle.dmn_make.specs.Steps.{HasHeight};
 ghost use Rattle.dmn_make.specs.declared.step.Step.TheVariants.{TakeBack, Tell};
 
@@ -49,9 +51,11 @@ impl Maker {
         ensures count { self.new.count ≡ self.old.count }
         ensures usable { OnOk result (self.new.office.registry.spent ≡ false) }
         ensures line { D.line disk.new ≡ D.line disk.old }
+        ensures room { D.room disk.new ≡ D.room disk.old }
         ensures time { D.time disk.old ≤ D.time disk.new }
         ensures later { (D.disk disk.old).faults ≤ (D.disk disk.new).faults }
         ensures fault { IsErrOf result MakeFault.DiskFault → Rose (D.disk disk.old).faults (D.disk disk.new).faults }
+        ensures sure { D.tells_room ≡ true → (g : Going) → IsAt self.old g (D.disk disk.old).told → HasRoomFor self.old.count TakeBack g.machine (D.disk disk.old).room → NeverFails result MakeFault.DiskFault (D.disk disk.old) (D.disk disk.new) }
     {
         let hash = self.office.registry.branch().tip().hash;
         ask(alloc, disk, &mut self.office, &Request::Disconnect { hash })?;
@@ -65,9 +69,11 @@ impl Maker {
         ensures count { self.new.count ≡ self.old.count }
         ensures usable { OnOk result (self.new.office.registry.spent ≡ false) }
         ensures line { D.line disk.new ≡ D.line disk.old }
+        ensures room { D.room disk.new ≡ D.room disk.old }
         ensures time { D.time disk.old ≤ D.time disk.new }
         ensures later { (D.disk disk.old).faults ≤ (D.disk disk.new).faults }
         ensures fault { IsErrOf result MakeFault.DiskFault → Rose (D.disk disk.old).faults (D.disk disk.new).faults }
+        ensures sure { D.tells_room ≡ true → (g : Going) → IsAt self.old g (D.disk disk.old).told → HasRoomFor self.old.count (Tell from) g.machine (D.disk disk.old).room → NeverFails result MakeFault.DiskFault (D.disk disk.old) (D.disk disk.new) }
     {
         let request = Request::Page {
             pin: 1,
@@ -92,9 +98,11 @@ impl Maker {
         ensures count { self.new.count ≡ self.old.count }
         ensures usable { OnOk result (self.new.office.registry.spent ≡ false) }
         ensures line { D.line disk.new ≡ D.line disk.old }
+        ensures room { D.room disk.new ≡ D.room disk.old }
         ensures time { D.time disk.old ≤ D.time disk.new }
         ensures later { (D.disk disk.old).faults ≤ (D.disk disk.new).faults }
         ensures fault { IsErrOf result MakeFault.DiskFault → Rose (D.disk disk.old).faults (D.disk disk.new).faults }
+        ensures sure { D.tells ≡ true → D.tells_room ≡ true → (g : Going) → IsAt self.old g (D.disk disk.old).told → HasRoomFor self.old.count step g.machine (D.disk disk.old).room → NeverFails result MakeFault.DiskFault (D.disk disk.old) (D.disk disk.new) }
     {
         match step {
             Step::Add { chain, height } => {
@@ -120,9 +128,11 @@ impl Maker {
         requires heights { All HasHeight steps.now }
         ensures takes { D.tells ≡ true → TakesSteps result self.old.count steps.now (D.time disk.old) (D.disk disk.old) (D.disk disk.new) self.old self.new }
         ensures line { D.line disk.new ≡ D.line disk.old }
+        ensures room { D.room disk.new ≡ D.room disk.old }
         ensures time { D.time disk.old ≤ D.time disk.new }
         ensures later { (D.disk disk.old).faults ≤ (D.disk disk.new).faults }
         ensures fault { IsErrOf result MakeFault.DiskFault → Rose (D.disk disk.old).faults (D.disk disk.new).faults }
+        ensures sure { D.tells ≡ true → D.tells_room ≡ true → (g : Going) → IsAt self.old g (D.disk disk.old).told → HasRoomForAll self.old.count steps.now g (D.disk disk.old).room → NeverFails result MakeFault.DiskFault (D.disk disk.old) (D.disk disk.new) }
     {
         'steps: for step in steps {
             self.take_step(alloc, disk, *step)?;

@@ -3,6 +3,7 @@
 ghost use Rattle.std.specs.Prelude.{◌≡◌, ◌≤◌, true, IsErrOf};
 ghost use Rattle.dmn_generator.specs.Blocks.{start};
 ghost use Rattle.dmn_journal.specs.Create.{IsBlank, IsBlankDisk};
+ghost use Rattle.dmn_journal.specs.Sure.{NeverFails};
 ghost use Rattle.dmn_outside.specs.Changes.{OnlyReads};
 ghost use Rattle.dmn_outside.specs.Counts.{Rose};
 ghost use Rattle.dmn_outside.specs.Crashes.{IsKnown, LeavesOnly};
@@ -11,8 +12,11 @@ ghost use Rattle.dmn_outside.specs.Later.{IsLater};
 ghost use Rattle.dmn_registry.specs.Machine.{Machine, begun};
 ghost use Rattle.dmn_registry.specs.Opening.{Reading};
 ghost use Rattle.dmn_registry.specs.Own.{IsBetween, IsOwn};
+ghost use Rattle.dmn_make.specs.Going.{beginning};
 ghost use Rattle.dmn_make.specs.Outcome.{EndsWell, IsOfRun, IsOnWay, Makes, OfMake};
+ghost use Rattle.dmn_make.specs.Room.{EndsSurely, HasRoomForAll, Suffices};
 ghost use Rattle.dmn_make.specs.Starting.{Ends, IsEnd, RunsAll};
+ghost use Rattle.dmn_make.specs.Steps.{all_steps};
 
 use crate::fault::MakeFault;
 use crate::maker::Maker;
@@ -37,9 +41,11 @@ fn finish<D: Disk>(alloc: Global, disk: &mut D, pages: &Bytes) -> Result<Bytes, 
     ensures ends { D.tells ≡ true → (m : Machine) → IsEnd m (D.disk disk.old).told → Ends result m pages.now (D.disk disk.new).told }
     ensures moments { (m : Machine) → IsKnown (IsOwn m) (D.disk disk.old).told → LeavesOnly (D.time disk.old) (D.disk disk.old) (D.disk disk.new) (IsBetween m m) }
     ensures line { D.line disk.new ≡ D.line disk.old }
+    ensures room { D.room disk.new ≡ D.room disk.old }
     ensures time { D.time disk.old ≤ D.time disk.new }
     ensures later { (D.disk disk.old).faults ≤ (D.disk disk.new).faults }
     ensures fault { IsErrOf result MakeFault.DiskFault → Rose (D.disk disk.old).faults (D.disk disk.new).faults }
+    ensures sure { D.tells_room ≡ true → NeverFails result MakeFault.DiskFault (D.disk disk.old) (D.disk disk.new) }
 {
     match Registry::open(alloc, disk) {
         Err(fault) => Err(MakeFault::from(fault)),
@@ -58,9 +64,11 @@ fn run_all<D: Disk>(alloc: Global, disk: &mut D, count: u32) -> Result<Bytes, Ma
     ensures runs { D.tells ≡ true → IsKnown (IsOwn (begun start)) (D.disk disk.old).told → RunsAll result count (D.disk disk.new).told }
     ensures moments { D.tells ≡ true → IsKnown (IsOwn (begun start)) (D.disk disk.old).told → LeavesOnly (D.time disk.old) (D.disk disk.old) (D.disk disk.new) (IsOnWay count) }
     ensures line { D.line disk.new ≡ D.line disk.old }
+    ensures room { D.room disk.new ≡ D.room disk.old }
     ensures time { D.time disk.old ≤ D.time disk.new }
     ensures later { (D.disk disk.old).faults ≤ (D.disk disk.new).faults }
     ensures fault { IsErrOf result MakeFault.DiskFault → Rose (D.disk disk.old).faults (D.disk disk.new).faults }
+    ensures sure { D.tells ≡ true → D.tells_room ≡ true → IsKnown (IsOwn (begun start)) (D.disk disk.old).told → HasRoomForAll count all_steps beginning (D.disk disk.old).room → NeverFails result MakeFault.DiskFault (D.disk disk.old) (D.disk disk.new) }
 {
     let steps = all_steps(alloc)?;
     let mut maker = open(alloc, disk, count)?;
@@ -92,6 +100,11 @@ pub fn make<T: Station>(alloc: Global, count: u32, station: &mut T) -> Status
     ensures line_fault { result ≡ Status.LineFault → Rose (T.line station.old).faults (T.line station.new).faults }
     ensures disk_fault { result ≡ Status.DiskFault → Rose (T.disk station.old).faults (T.disk station.new).faults }
     ensures disk_later { (T.disk station.old).faults ≤ (T.disk station.new).faults }
+
+    // Over a station that tells how many bytes more may be sent and how long a file may be, where that is enough for the text, for the
+    // journal before each step with what that asks for, and for a snapshot there: no count of faults rises, and on a blank disk the
+    // end is Done or Memory.
+    ensures sure { T.tells ≡ true → T.tells_room ≡ true → Suffices count (T.room station.old) (T.disk station.old).room → EndsSurely result (T.disk station.old) (T.disk station.new) (T.line station.old) (T.line station.new) }
 {
     match make_journal(alloc, station) {
         Err(status) => status,

@@ -1,14 +1,16 @@
 //! A registry of the stream's start record is made, and opened.
 
-ghost use Rattle.std.specs.Prelude.{◌≡◌, ◌≤◌, Err, false, true, IfOk, IsErrOf};
+ghost use Rattle.std.specs.Prelude.{◌≡◌, ◌+◌, ◌≤◌, Err, false, true, length, IfOk, IsErrOf};
 ghost use Rattle.dmn_generator.specs.Blocks.{start};
 ghost use Rattle.dmn_journal.specs.Create.{IsBlank, IsBlankDisk};
+ghost use Rattle.dmn_journal.specs.Sure.{NeverFails};
 ghost use Rattle.dmn_outside.specs.Changes.{OnlyReads};
 ghost use Rattle.dmn_outside.specs.Counts.{Rose};
 ghost use Rattle.dmn_outside.specs.Crashes.{IsKnown, LeavesOnly};
 ghost use Rattle.dmn_registry.specs.Machine.{begun};
 ghost use Rattle.dmn_registry.specs.Opening.{Reading};
 ghost use Rattle.dmn_registry.specs.Own.{IsBetween, IsOwn};
+ghost use Rattle.dmn_rows.specs.Defs.{start_text};
 ghost use Rattle.dmn_make.specs.Starting.{HasMade, IsBlankOrBegun, Opened};
 
 use crate::fault::MakeFault;
@@ -29,9 +31,11 @@ pub fn make_journal<D: Disk>(alloc: Global, disk: &mut D) -> Result<(), Status>
     ensures kept { Reading (λ all. ¬ IsBlank all.zeroth) (D.disk disk.old).told → OnlyReads (D.disk disk.old) (D.disk disk.new) }
     ensures moments { IsBlankDisk (D.disk disk.old).told → LeavesOnly (D.time disk.old) (D.disk disk.old) (D.disk disk.new) IsBlankOrBegun }
     ensures line { D.line disk.new ≡ D.line disk.old }
+    ensures room { D.room disk.new ≡ D.room disk.old }
     ensures time { D.time disk.old ≤ D.time disk.new }
     ensures later { (D.disk disk.old).faults ≤ (D.disk disk.new).faults }
     ensures fault { result ≡ Err Status.DiskFault → Rose (D.disk disk.old).faults (D.disk disk.new).faults }
+    ensures sure { D.tells_room ≡ true → 13 + length (start_text start) ≤ (D.disk disk.old).room → NeverFails result Status.DiskFault (D.disk disk.old) (D.disk disk.new) }
 {
     match is_blank(disk) {
         Err(Failed) => Err(Status::DiskFault),
@@ -55,9 +59,11 @@ pub fn open<D: Disk>(alloc: Global, disk: &mut D, count: u32) -> Result<Maker, M
     ensures usable { IfOk result (λ maker. maker.office.registry.spent ≡ false) }
     ensures moments { IsKnown (IsOwn (begun start)) (D.disk disk.old).told → LeavesOnly (D.time disk.old) (D.disk disk.old) (D.disk disk.new) (IsBetween (begun start) (begun start)) }
     ensures line { D.line disk.new ≡ D.line disk.old }
+    ensures room { D.room disk.new ≡ D.room disk.old }
     ensures time { D.time disk.old ≤ D.time disk.new }
     ensures later { (D.disk disk.old).faults ≤ (D.disk disk.new).faults }
     ensures fault { IsErrOf result MakeFault.DiskFault → Rose (D.disk disk.old).faults (D.disk disk.new).faults }
+    ensures sure { D.tells_room ≡ true → NeverFails result MakeFault.DiskFault (D.disk disk.old) (D.disk disk.new) }
 {
     match Office::open(alloc, disk) {
         Err(fault) => Err(MakeFault::from(fault)),

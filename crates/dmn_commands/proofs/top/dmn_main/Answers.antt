@@ -75,4 +75,5 @@ returns-in-Some-Make-clause-runs g c = λ command wanted. runs_asked _ (commands
   kept = c.make.ensures.kept;
   moments = c.make.ensures.moments;
   complete = λ tells blank calm. c.make.ensures.complete tells blank calm.disk calm.line;
+  sure = c.make.ensures.sure;
 })

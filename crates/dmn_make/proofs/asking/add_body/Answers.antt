@@ -2,6 +2,7 @@ use Rattle.std.proofs.Common.{arith, ap, sym, ◌∙◌}
 use Rattle.dmn_desk.specs.declared.answer.Answer.{Answer}
 use Rattle.dmn_registry.specs.Machine.{Machine}
 use Rattle.dmn_make.proofs.Asked.{answers_as, body_asks, body_departs, does_as, idle_fails, idle_goes, long_body}
+use Rattle.dmn_make.proofs.Fitting.{place_read}
 use Rattle.dmn_make.proofs.asking.add_body.Goals as goal
 
 pub returns-then-body-clause-does : goal.returns-then-body-clause-does
@@ -28,3 +29,6 @@ returns-in-Err-BadRequest-clause-answers g c = λ tells m stands.
 
 pub returns-in-Err-Memory-clause-does : goal.returns-in-Err-Memory-clause-does
 returns-in-Err-Memory-clause-does g c = λ tells m stands. idle_fails _ _ _ m _ (g.D.Device.past_is_over c.args.disk.now) stands
+
+pub returns-in-Ok-clause-sure : goal.returns-in-Ok-clause-sure
+returns-in-Ok-clause-sure g c = λ told m stands place fits. c.ask.ensures.sure told m stands (place_read m c.args.body.now c.in-Ok.request (g.D.Device.disk c.args.disk.now).room c.in-Ok.ensures.told place) fits

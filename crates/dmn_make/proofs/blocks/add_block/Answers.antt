@@ -3,6 +3,7 @@ use Rattle.dmn_generator.specs.Blocks.{body_of}
 use Rattle.dmn_make.specs.Going.{with_block, with_root}
 use Rattle.dmn_make.proofs.Added.{block_is, does_from}
 use Rattle.dmn_make.proofs.Asked.{idle_fails}
+use Rattle.dmn_make.proofs.Fitting.{place_drafted}
 use Rattle.dmn_make.proofs.blocks.add_block.Goals as goal
 
 pub returns-in_err-place_of-clause-does : goal.returns-in_err-place_of-clause-does
@@ -24,3 +25,10 @@ returns-clause-does g c = λ tells.
           (c.in_ok-place_of.ensures.place m stands.at.registry.registry_stands) (c.in_ok-formings_for.ensures.formed m stands.at.registry.registry_stands),
     ))
     (c.add_draft.ensures.does tells)
+
+pub returns-clause-sure : goal.returns-clause-sure
+returns-clause-sure g c = λ tells told m stands room.
+    c.add_draft.ensures.sure tells told m (c.formings_for.ensures.same m _ stands)
+    (place_drafted c.args.count c.args.chain c.args.height m (g.D.Device.disk c.args.disk.now).room c.in_ok-place_of.field-0 c.in_ok-formings_for.field-0.items
+    (c.in_ok-place_of.ensures.place m stands.at.registry.registry_stands) (c.in_ok-formings_for.ensures.formed m stands.at.registry.registry_stands) room.journal)
+    room.snapshot

@@ -1,5 +1,6 @@
 use Rattle.dmn_registry.specs.Machine.{at_rest}
 use Rattle.dmn_make.proofs.Ending.{ends_with, not_ended, opens_between}
+use Rattle.dmn_make.proofs.Fitting.{never_opened}
 use Rattle.dmn_make.proofs.making.finish.Goals as goal
 
 pub returns-in-Err-clause-ends : goal.returns-in-Err-clause-ends
@@ -15,3 +16,6 @@ returns-in-Ok-seven_lines-clause-moments g c = λ m known. opens_between _ _ _ m
 
 pub returns-clause-moments : goal.returns-clause-moments
 returns-clause-moments g c = λ m known. opens_between _ _ _ m known c.open.ensures.moments
+
+pub returns-in-Err-clause-sure : goal.returns-in-Err-clause-sure
+returns-in-Err-clause-sure g c = λ told. never_opened c.in-Err.fault c.from.result _ _ c.from.ensures (c.in-Err.ensures.sure told)

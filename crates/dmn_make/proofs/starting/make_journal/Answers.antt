@@ -1,8 +1,9 @@
-use Rattle.std.proofs.Common.{◌≡◌, arith, ◌∙◌}
+use Rattle.std.proofs.Common.{◌≡◌, length, ap, arith, ◌∙◌}
 use Rattle.dmn_generator.specs.Blocks.{start}
 use Rattle.dmn_init.proofs.Starting.{never_blank}
 use Rattle.dmn_rows.specs.Defs.{start_text}
 use Rattle.dmn_make.proofs.Beginning.{err_is, made_begun, making, none_made, not_made, text_short}
+use Rattle.dmn_make.proofs.Fitting.{disk_then}
 use Rattle.dmn_make.proofs.starting.make_journal.Goals as goal
 
 pub returns-in-Err-clause-moments : goal.returns-in-Err-clause-moments
@@ -31,7 +32,12 @@ returns g c =
       kept = λ held. absurd (never_blank (g.D.Device.disk c.args.disk.now).told held (rw c.in-Ok-true.field-0-test at c.in-Ok-true.ensures.blank));
       moments = λ blank. making c.as_slice.result.now _ _ _ _ _ is c.is_blank.ensures.time (g.D.Device.past_is_over c.args.disk.now) c.is_blank.ensures.disk blank c.make.ensures.moments;
       line = c.make.ensures.line ∙ c.is_blank.ensures.line;
+      room = c.make.ensures.room ∙ c.is_blank.ensures.room;
       time = omega (arith, c.make.ensures.time, c.is_blank.ensures.time);
       later = omega (arith, c.make.ensures.later, c.is_blank.ensures.cause.later);
       fault = λ e. omega (arith, c.is_blank.ensures.cause.later, c.make.ensures.fault (err_is (Unit {0}) _ _ e));
+      sure = λ told enough.
+          let first = c.in-Ok-true.ensures.sure told in
+          let second = c.make.ensures.sure told (omega (arith, enough, ap length is, first.room)) in
+          record { disk = disk_then _ _ _ first second.disk; answer = λ e. second.runs (err_is (Unit {0}) _ _ e) };
     }

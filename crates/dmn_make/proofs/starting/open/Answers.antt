@@ -2,6 +2,7 @@ use Rattle.dmn_generator.specs.Blocks.{start}
 use Rattle.dmn_registry.specs.Machine.{at_rest, begun}
 use Rattle.dmn_office.proofs.Opened.{own_between}
 use Rattle.dmn_make.proofs.Beginning.{no_mark_yet, not_opened}
+use Rattle.dmn_make.proofs.Fitting.{never_opened}
 use Rattle.dmn_make.proofs.starting.open.Goals as goal
 
 pub returns-in-Err-clause-opened : goal.returns-in-Err-clause-opened
@@ -20,3 +21,6 @@ returns-in-Ok-clause-opened g c = λ tells known.
 
 pub returns-in-Ok-clause-moments : goal.returns-in-Ok-clause-moments
 returns-in-Ok-clause-moments g c = λ known. own_between _ _ _ (begun start) (c.open.ensures.moments (begun start) known)
+
+pub returns-in-Err-clause-sure : goal.returns-in-Err-clause-sure
+returns-in-Err-clause-sure g c = λ told. never_opened c.in-Err.fault c.from.result _ _ c.from.ensures (c.in-Err.ensures.sure told)

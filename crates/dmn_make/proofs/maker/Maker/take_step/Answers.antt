@@ -4,6 +4,8 @@ use Rattle.dmn_desk.specs.Ask.{ask}
 use Rattle.dmn_desk.specs.declared.request.Request.TheVariants as requests
 use Rattle.dmn_registry.specs.Machine.{Machine}
 use Rattle.dmn_make.specs.Going.{Going, with_block}
+use Rattle.dmn_make.specs.declared.fault.MakeFault.TheVariants as faults
+use Rattle.dmn_make.proofs.Fitting.{never_ok}
 use Rattle.dmn_make.proofs.Taken.{add_is, pin_is, step_does, step_fails, step_goes}
 use Rattle.dmn_make.proofs.maker.Maker.take_step.Goals as goal
 
@@ -28,3 +30,6 @@ returns-in_ok-ask-in-Pin-clause-takes g c = λ tells.
     (λ h at. ap (λ (k : Going). k.machine) (sym (pin_is c.args.self.now.count c.in-Pin.height h)))
     (λ h at. at.pages ∙ ap (λ (k : Going). k.pages) (sym (pin_is c.args.self.now.count c.in-Pin.height h)))
     (c.in_ok-ask-in-Pin.ensures.does tells))
+
+pub returns-in_ok-ask-in-Pin-clause-sure : goal.returns-in_ok-ask-in-Pin-clause-sure
+returns-in_ok-ask-in-Pin-clause-sure g c = λ tells told h at room. never_ok _ faults.DiskFault _ _ (c.in_ok-ask-in-Pin.ensures.sure told h.machine at.office tt room.snapshot).disk

@@ -3,10 +3,10 @@
 
     python3 bench/bench.py crates/dmnd/out/dmnd [--quick] [--only WORD ..] [--folder FOLDER] [--into FILE]
 
-Prints a table. With --into FILE it puts it between the two marks of this file, as in docs/PERFORMANCE.md. --quick takes about a
-minute and leaves out what takes long. --only names parts: blocks, questions, opening, snapshots, callers, memory, make. The
-registries stand in a folder of their own, below FOLDER where it is told, else below the system's for temporary files: an fsync costs
-what it costs there.
+Prints a table. With --into FILE it puts it between the two marks of this file, as in docs/PERFORMANCE.md. --quick leaves out what
+takes long: it takes half a minute or so on an idle machine. --only names parts: blocks, questions, opening, snapshots, callers,
+memory, make. The registries stand in a folder of their own, below FOLDER where it is told, else below the system's for temporary
+files: an fsync costs what it costs there.
 
 What 'serve' does is measured on port 9996, which must be free. Bytes read are counted by strace, where it is there."""
 

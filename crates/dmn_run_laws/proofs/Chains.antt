@@ -12,7 +12,8 @@ use Rattle.dmn_registry.proofs.Between.{leads_on, leads_self, since_later}
 use Rattle.dmn_registry.proofs.Once.{journal_once}
 use Rattle.dmn_registry.proofs.Resting.{rests_images}
 use Rattle.dmn_serve.specs.Callers.{ServesEach, Visit}
-use Rattle.dmn_run_laws.specs.Chains.{ChainsFromInitKeepAnswered, ChainsKeepAnswered, KeepsAll}
+use Rattle.dmn_make.specs.Going.{made}
+use Rattle.dmn_run_laws.specs.Chains.{ChainsFromInitKeepAnswered, ChainsFromMakeKeepAnswered, ChainsKeepAnswered, KeepsAll}
 use Rattle.dmn_run_laws.specs.Runs.{Does, Doing, IsKept, IsRunOn, Keeps, Run, feeding, reading, serving}
 use Rattle.dmn_run_laws.proofs.Fed as fed
 use Rattle.dmn_run_laws.proofs.Served as served
@@ -129,3 +130,8 @@ from_init before after old new image runs made left chain =
     let start = made.1.0 in
     let all = chains_keep_answered (begun start) image runs (rests_images (begun start) after.told image made.1.2 left) chain in
     (start, made.1.1, all.0, all.1, all.2)
+
+pub from_make : ChainsFromMakeKeepAnswered
+from_make count before after old new image runs makes left chain =
+    let m = (made count).machine in
+    chains_keep_answered m image runs (rests_images m after.told image makes.1 left) chain

@@ -3,6 +3,8 @@ use Rattle.std.specs.Prelude.{◌≡◌, ℕ, List, [], ◌∷◌}
 use Rattle.dmn_outside.specs.Disk.{DiskView, MayLeave, Three}
 use Rattle.dmn_outside.specs.Line.{Talk}
 use Rattle.dmn_init.specs.Init.{Inits}
+use Rattle.dmn_make.specs.Going.{made}
+use Rattle.dmn_make.specs.Outcome.{Makes}
 use Rattle.dmn_registry.specs.Machine.{Machine, at_rest, begun}
 use Rattle.dmn_registry.specs.Own.{IsOwn, Leads}
 use Rattle.dmn_rows.specs.Defs.{IsStartText}
@@ -35,3 +37,8 @@ ChainsKeepAnswered = (m : Machine) (image : Three (List ℕ)) (runs : List Run) 
 abbrev pub ChainsFromInitKeepAnswered : Type 0
 ChainsFromInitKeepAnswered = (before after : DiskView) (old new : Talk) (image : Three (List ℕ)) (runs : List Run) → Inits Done before after old new → MayLeave after.told image → IsChain image runs
     → (start : StartRecord) × IsStartText old.left start × (end : Machine) × IsOwn end (last_image image runs) × KeepsAll (begun start) runs end
+
+-- The same from an image on that `make` may have left once it was done: the commands of its run are there.
+abbrev pub ChainsFromMakeKeepAnswered : Type 0
+ChainsFromMakeKeepAnswered = (count : ℕ) (before after : DiskView) (old new : Talk) (image : Three (List ℕ)) (runs : List Run) → Makes Done count before after old new → MayLeave after.told image → IsChain image runs
+    → (end : Machine) × IsOwn end (last_image image runs) × KeepsAll (made count).machine runs end

@@ -2,4 +2,4 @@
 --   Fronts  what an image between two machines has
 --   Runs    a run, and what of it is there in an image that a crash left, and at the end
 --   Chains  runs one behind the other
--- What `feed`, `serve` and `init` promise of a run stands in their crates.
+-- What `feed`, `serve`, `init` and `make` promise of a run stands in their crates.

@@ -1,6 +1,6 @@
 //! The laws.
 
-ghost use Rattle.dmn_run_laws.specs.Chains.{ChainsFromInitKeepAnswered, ChainsKeepAnswered};
+ghost use Rattle.dmn_run_laws.specs.Chains.{ChainsFromInitKeepAnswered, ChainsFromMakeKeepAnswered, ChainsKeepAnswered};
 ghost use Rattle.dmn_run_laws.specs.Fronts.{ImagesHaveFronts};
 
 /// What a crash leaves between two machines has the commands of the one, and then a front of those until the other.
@@ -17,4 +17,9 @@ pub fn chains_keep_answered()
 /// So it is from what `init` left on, once it was done: the registry has the start record that `init` read.
 pub fn chains_from_init_keep_answered()
     ensures { ChainsFromInitKeepAnswered }
+{}
+
+/// And from what `make` left on, once it was done: the registry has the commands of its run.
+pub fn chains_from_make_keep_answered()
+    ensures { ChainsFromMakeKeepAnswered }
 {}

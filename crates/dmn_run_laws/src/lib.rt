@@ -3,4 +3,7 @@
 
 mod law;
 
-pub use law::{chains_from_init_keep_answered, chains_keep_answered, images_have_fronts};
+pub use law::{
+    chains_from_init_keep_answered, chains_from_make_keep_answered, chains_keep_answered,
+    images_have_fronts,
+};

@@ -4,11 +4,11 @@
 use crate::difference::Difference;
 use crate::ending::{ending, is_fault};
 use crate::files::{are_same, copy_of};
-use crate::run::{Each, Run, Stand, one_word, station_of};
+use crate::run::{Each, Run, Stand, ended, one_word, station_of};
 use crate::texts::shown;
 use crate::trouble::Trouble;
 use dmn_bytes::Bytes;
-use dmn_commands::{Status, dmn_main};
+use dmn_commands::Status;
 use dmn_outside::{Image, MemoryStation, Pick};
 use std::alloc::Global;
 
@@ -54,7 +54,7 @@ fn add_sent(
 ) -> Result<(), Trouble> {
     let words = one_word(alloc, word)?;
     let mut station = station_of(alloc, image, input, Vec::new(alloc), None)?;
-    let _ = dmn_main(alloc, &words, &mut station);
+    let _ = ended(alloc, &words, &mut station);
     out.extend(station.sent(0))?;
     Ok(())
 }
@@ -144,7 +144,7 @@ impl Run {
     ) -> Result<Option<Difference>, Trouble> {
         let input = self.input.as_slice().get(from.asked..).unwrap_or(&[]);
         let mut station = station_of(alloc, image, input, Vec::new(alloc), None)?;
-        let status = dmn_main(alloc, &self.words, &mut station);
+        let status = ended(alloc, &self.words, &mut station);
         let end = from.end.as_str();
         if let Some(difference) = self.compare(alloc, from.count, &station, status, 0, end)? {
             return Ok(Some(difference));
@@ -247,7 +247,7 @@ impl Run {
         judged: &mut Vec<Judged>,
     ) -> Result<Tried, Trouble> {
         let mut station = each.station(alloc, image, self.input.as_slice(), call)?;
-        let status = dmn_main(alloc, &self.words, &mut station);
+        let status = ended(alloc, &self.words, &mut station);
         if station.calls() <= call {
             return Ok(Tried::Over);
         }

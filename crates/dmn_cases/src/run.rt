@@ -93,11 +93,16 @@ pub fn one_word(alloc: Global, word: &str) -> Result<Vec<String>, Trouble> {
     Ok(words)
 }
 
+/// A run of the program. What its contract says is of no use here: that calls do not meet it again and again saves most of the proof.
+pub fn ended(alloc: Global, words: &[String], station: &mut MemoryStation) -> Status {
+    dmn_main(alloc, words, station)
+}
+
 // How many calls an opening makes: as many as a run of no input, but for the one that finds its end.
 fn opening_calls(alloc: Global, image: &Image) -> Result<u64, Trouble> {
     let words = one_word(alloc, "feed")?;
     let mut station = station_of(alloc, image, &[], Vec::new(alloc), None)?;
-    let _ = dmn_main(alloc, &words, &mut station);
+    let _ = ended(alloc, &words, &mut station);
     Ok(station.calls().saturating_sub(1))
 }
 
@@ -261,7 +266,7 @@ impl Run {
         let fails = self.fails.to_vec(alloc)?;
         let input = self.input.as_slice();
         let mut station = station_with(alloc, image, input, &self.callers, fails, self.stop)?;
-        let status = dmn_main(alloc, &self.words, &mut station);
+        let status = ended(alloc, &self.words, &mut station);
         let left = station.image(alloc, self.pick)?;
         let found = self.first_difference(alloc, &station, &left, status, end_line, end)?;
         Ok((found, left))
